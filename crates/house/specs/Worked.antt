@@ -1,0 +1,89 @@
+-- A history that closes, worked through: chess, the token tree, three stations.
+use Prim.Native.Nat.{ℕ}
+use mathlib.Core.Path.{_≡_}
+use mathlib.Core.List.{List, [], _∷_, _++_}
+use lib.IntN.{ℤ, pos}
+use lib.ListN.{set, replicate}
+use Rattle.sections.specs.Rule.{blankSheet}
+use Rattle.sections.specs.Chess.{chess}
+use Rattle.methods.specs.Model.{Model}
+use Rattle.methods.specs.Tree.{treeModel}
+use Rattle.house.specs.declared.slip.Slip.{Slip}
+use Rattle.house.specs.Names.{slipsOf}
+use Rattle.house.specs.State.{House}
+use Rattle.house.specs.Making.{madeHouse}
+use Rattle.house.specs.Calls.{Call, enter, post, take, open′, turn, gather, report, close, file, nothing, number, sum, sent, receipt, filed}
+use Rattle.house.specs.Runs.{make, done, run, Told, toldNo, toldOk, allTold, accepted}
+use Rattle.house.specs.PlainHouse.{Event, enters, posts, takes}
+use Rattle.house.specs.Cut.{cutOf}
+
+abbrev pub firstHouse : House (treeModel .State)
+firstHouse = madeHouse 3 64 64 (treeModel .fresh)
+
+-- results 2 and 1 are a win of the first line and a draw; the text handed in at the end has 80 bytes
+abbrev pub workedCalls : List Call
+workedCalls =
+    enter 0 0 1 (pos 2)
+    ∷ enter 1 2 3 (pos 1)
+    ∷ post 0 1 0 (pos 2)
+    ∷ open′ 0
+    ∷ enter 0 4 5 (pos 2)
+    ∷ post 0 2 4 (pos 1)
+    ∷ take 0 2
+    ∷ post 1 2 2 (pos 1)
+    ∷ take 1 1
+    ∷ turn 1
+    ∷ gather 1
+    ∷ gather 2
+    ∷ gather 0
+    ∷ close
+    ∷ take 0 1
+    ∷ report 2
+    ∷ report 1
+    ∷ close
+    ∷ file 2 (replicate 80 0)
+    ∷ []
+
+-- sheet 1 3 1, slip 1 1 2 2 1, slip 0 1 1 0 2, score 0 2, score 2 1, score 3 1, end
+abbrev pub workedText : List ℕ
+workedText =
+    (115 ∷ 104 ∷ 101 ∷ 101 ∷ 116 ∷ 9 ∷ 49 ∷ 9 ∷ 51 ∷ 9 ∷ 49 ∷ 10 ∷ [])
+    ++ ((115 ∷ 108 ∷ 105 ∷ 112 ∷ 9 ∷ 49 ∷ 9 ∷ 49 ∷ 9 ∷ 50 ∷ 9 ∷ 50 ∷ 9 ∷ 49 ∷ 10 ∷ [])
+    ++ ((115 ∷ 108 ∷ 105 ∷ 112 ∷ 9 ∷ 48 ∷ 9 ∷ 49 ∷ 9 ∷ 49 ∷ 9 ∷ 48 ∷ 9 ∷ 50 ∷ 10 ∷ [])
+    ++ ((115 ∷ 99 ∷ 111 ∷ 114 ∷ 101 ∷ 9 ∷ 48 ∷ 9 ∷ 50 ∷ 10 ∷ [])
+    ++ ((115 ∷ 99 ∷ 111 ∷ 114 ∷ 101 ∷ 9 ∷ 50 ∷ 9 ∷ 49 ∷ 10 ∷ [])
+    ++ ((115 ∷ 99 ∷ 111 ∷ 114 ∷ 101 ∷ 9 ∷ 51 ∷ 9 ∷ 49 ∷ 10 ∷ [])
+    ++ (101 ∷ 110 ∷ 100 ∷ 10 ∷ []))))))
+
+abbrev pub workedTold : List Told
+workedTold =
+    toldOk nothing
+    ∷ toldOk nothing
+    ∷ toldOk (number 1)
+    ∷ toldOk nothing
+    ∷ toldOk nothing
+    ∷ toldOk (number 2)
+    ∷ toldOk nothing
+    ∷ toldOk (number 1)
+    ∷ toldOk nothing
+    ∷ toldOk nothing
+    ∷ toldOk (sum (pos 1))
+    ∷ toldOk (sum (pos 0))
+    ∷ toldOk (sum (pos 2))
+    ∷ toldNo (20, 0, 0)
+    ∷ toldOk nothing
+    ∷ toldOk (sent 4)
+    ∷ toldOk (sent 10)
+    ∷ toldOk (receipt 2 16)
+    ∷ toldOk (filed 76 (workedText ++ (0 ∷ 0 ∷ 0 ∷ 0 ∷ [])))
+    ∷ []
+
+pub record Worked-history : Type 0 where
+  pub made : make treeModel 3 3 3 64 64 (treeModel .fresh) ≡ done firstHouse nothing
+  pub told : allTold treeModel chess firstHouse workedCalls ≡ workedTold
+  -- the half point of line 3 at station 1 is all that was recorded; the rest was under way
+  pub recorded : run treeModel chess firstHouse workedCalls .hall .recorded ≡ blankSheet ∷ set blankSheet 3 (pos 1) ∷ blankSheet ∷ []
+  pub late : slipsOf (run treeModel chess firstHouse workedCalls .hall .late) ≡ record { sender = 1; number = 1; receiver = 2; line = 2; amount = pos 1 } ∷ record { sender = 0; number = 1; receiver = 1; line = 0; amount = pos 2 } ∷ []
+  -- the cut of the count
+  pub before : cutOf (accepted treeModel chess firstHouse workedCalls) .before ≡ enters 0 0 1 (pos 2) ∷ enters 1 2 3 (pos 1) ∷ posts 0 1 0 (pos 2) ∷ posts 1 2 2 (pos 1) ∷ []
+  pub after : cutOf (accepted treeModel chess firstHouse workedCalls) .after ≡ enters 0 4 5 (pos 2) ∷ posts 0 2 4 (pos 1) ∷ takes 0 2 ∷ takes 1 1 ∷ takes 0 1 ∷ []

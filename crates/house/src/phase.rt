@@ -1,0 +1,7 @@
+// What a house is about: between counts it is ready, during a count counting, from its close until its text is filed closed.
+#[derive(Clone, Copy, PartialEq, Eq, Debug)]
+pub enum Phase {
+    Ready,
+    Counting,
+    Closed,
+}

@@ -1,0 +1,11 @@
+pub mod Numbers
+pub mod Fields
+pub mod Letters
+pub mod Entries
+pub mod Codes
+pub mod Did
+pub mod Texts
+pub mod Pending
+pub mod Words
+pub mod Rounds
+pub mod Tallied

@@ -1,0 +1,66 @@
+ghost use mathlib.Core.Path.{_≡_};
+ghost use mathlib.Core.Bool.{true, false};
+ghost use Rattle.sections.specs.Bridge.{bridge, isAmount};
+use crate::fault::Cause;
+use crate::fault::Fault;
+use crate::figures::Figures;
+use crate::imps::both_imps;
+use crate::line::Line;
+use crate::section::Section;
+
+// A sheet of IMPs.
+#[derive(Clone, Copy)]
+pub struct Bridge {
+    figures: Figures,
+}
+
+fn is_amount(amount: i32) -> bool
+    ensures { λ x. ⌜ x ≡ isAmount amount ⌝ }
+{
+    amount != 0 && amount >= -1_000 && amount <= 1_000
+}
+
+pub impl Section for Bridge as BridgeSection {
+    ghost figures = { λ s. s .figures .marks };
+
+    ghost rule = { bridge };
+
+    fn blank() -> Bridge {
+        Bridge {
+            figures: Figures::zero(),
+        }
+    }
+
+    fn enter(&mut self, a: u32, b: u32, r: i32) -> Result<(), Fault> {
+        self.figures.enter(a, b, both_imps(r))
+    }
+
+    fn debit(&mut self, line: u32, amount: i32) -> Result<(), Fault> {
+        let at = Line::new(line)?;
+        if !is_amount(amount) {
+            return Err(Fault {
+                cause: Cause::BadAmount,
+                line,
+            });
+        }
+        self.figures.subtract(at, amount)?;
+        Ok(())
+    }
+
+    fn credit(&mut self, line: u32, amount: i32) -> Result<(), Fault> {
+        let at = Line::new(line)?;
+        if !is_amount(amount) {
+            return Err(Fault {
+                cause: Cause::BadAmount,
+                line,
+            });
+        }
+        self.figures.add(at, amount)?;
+        Ok(())
+    }
+
+    fn figure(&self, line: u32) -> Result<i32, Fault> {
+        let at = Line::new(line)?;
+        Ok(self.figures.at(at))
+    }
+}

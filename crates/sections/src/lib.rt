@@ -1,0 +1,22 @@
+pub mod bridge;
+mod bridge_rule;
+pub mod chess;
+mod chess_rule;
+pub mod fault;
+mod figures;
+mod imps;
+mod line;
+mod pair;
+pub mod section;
+pub mod sums;
+
+pub use bridge::Bridge;
+pub use bridge::BridgeSection;
+pub use bridge_rule::carries_bridge_rule;
+pub use chess::Chess;
+pub use chess::ChessSection;
+pub use chess_rule::carries_chess_rule;
+pub use fault::Cause;
+pub use fault::Fault;
+pub use section::Section;
+pub use sums::line_sum;

@@ -1,0 +1,33 @@
+ghost use mathlib.Core.Path.{_≡_};
+ghost use Prim.Native.Nat.{ℕ, _<_, _≤_};
+ghost use Rattle.std.specs.Results.{Cases};
+ghost use Rattle.sections.specs.Codes.{faultCode};
+use crate::fault::Cause;
+use crate::fault::Fault;
+
+// A line of a sheet.
+#[derive(Clone, Copy)]
+pub struct Line {
+    number: u32,
+    ghost ok: { number < 32 },
+}
+
+impl Line {
+    pub fn new(line: u32) -> Result<Line, Fault>
+        ensures { λ r. ⌜ Cases r (λ l. (line < 32) × (l .number ≡ line)) (λ f. (32 ≤ line) × (faultCode f ≡ (6, 9, line))) ⌝ }
+    {
+        if line >= 32 {
+            return Err(Fault {
+                cause: Cause::BadLines,
+                line,
+            });
+        }
+        Ok(Line { number: line })
+    }
+
+    pub fn number(self) -> u32
+        ensures { λ r. ⌜ r ≡ self .number ⌝ }
+    {
+        self.number
+    }
+}
