@@ -8,7 +8,7 @@ use Rattle.sections.specs.Rule.{Rule}
 use Rattle.methods.specs.Model.{Model}
 use Rattle.methods.specs.Questions.{firstNo}
 use Rattle.house.specs.Calls.{Call, Answer, questions, after, reply}
-use Rattle.house.specs.PlainHouse.{isSome}
+use Rattle.std.specs.Options.{isSome}
 use Rattle.house.specs.Runs.{Outcome, outcome, step, isDone, refused, done}
 use Rattle.house.specs.State.{House}
 

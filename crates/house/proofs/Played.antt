@@ -18,7 +18,8 @@ use Rattle.house.specs.declared.slip.Slip.{Slip}
 use Rattle.house.specs.CountText.{sumOf, onSheets, onSlip, onSlips}
 use Rattle.house.specs.Cut.{put, put2}
 use Rattle.house.specs.Names.{same, find, without}
-use Rattle.house.specs.PlainHouse.{PlainHouse, Event, plainStep, orStays, plainRun, isSome, RefusesNone}
+use Rattle.std.specs.Options.{isSome}
+use Rattle.house.specs.PlainHouse.{PlainHouse, Event, plainStep, orStays, plainRun, RefusesNone}
 use Rattle.house.specs.Statements.{gainOf}
 use Rattle.house.proofs.Sheets.{length-gained, figure-entered, figure-debited, figure-credited, debit-short, credit-short}
 use Rattle.house.proofs.Slips.{same-refl, same-true, find-append, Distinct, find-without, distinct-without, distinct-push}

@@ -2,6 +2,7 @@
 use Prim.Native.Nat.{ℕ, zero, suc, _+_}
 use mathlib.Core.Bool.{Bool, cond, _&&_}
 use mathlib.Core.List.{List, [], _∷_, _++_}
+use lib.Chars.{codes}
 use lib.Dec.{eqb}
 use lib.IntN.{ℤ, pos, _+ℤ_}
 use lib.Signed.{leZ}
@@ -35,22 +36,9 @@ isZero z = leZ z (pos 0) && leZ (pos 0) z
 abbrev pub field : List ℕ → List ℕ
 field bytes = 9 ∷ bytes
 
--- the words sheet, slip, score and end
-abbrev pub sheetWord : List ℕ
-sheetWord = 115 ∷ 104 ∷ 101 ∷ 101 ∷ 116 ∷ []
-
-abbrev pub slipWord : List ℕ
-slipWord = 115 ∷ 108 ∷ 105 ∷ 112 ∷ []
-
-abbrev pub scoreWord : List ℕ
-scoreWord = 115 ∷ 99 ∷ 111 ∷ 114 ∷ 101 ∷ []
-
-abbrev pub endWord : List ℕ
-endWord = 101 ∷ 110 ∷ 100 ∷ []
-
 -- sheet, station, line, figure
 abbrev pub sheetLine : (station line : ℕ) → ℤ → List ℕ
-sheetLine station line figure = sheetWord ++ (field (decimal station) ++ (field (decimal line) ++ (field (signed figure) ++ (10 ∷ []))))
+sheetLine station line figure = codes "sheet" ++ (field (decimal station) ++ (field (decimal line) ++ (field (signed figure) ++ (10 ∷ []))))
 
 -- the figures of a sheet from line k on that are not 0
 unfoldable pub sheetLines : (station k : ℕ) → List ℤ → List ℕ
@@ -64,7 +52,7 @@ recordLines k (f ∷ fs) = sheetLines k 0 f ++ recordLines (k + 1) fs
 
 -- slip, sender, number, receiver, line, amount
 abbrev pub slipLine : Slip → List ℕ
-slipLine x = slipWord ++ (field (decimal (x .sender)) ++ (field (decimal (x .number)) ++ (field (decimal (x .receiver)) ++ (field (decimal (x .line)) ++ (field (signed (x .amount)) ++ (10 ∷ []))))))
+slipLine x = codes "slip" ++ (field (decimal (x .sender)) ++ (field (decimal (x .number)) ++ (field (decimal (x .receiver)) ++ (field (decimal (x .line)) ++ (field (signed (x .amount)) ++ (10 ∷ []))))))
 
 unfoldable pub slipLines : List Slip → List ℕ
 slipLines [] = []
@@ -72,7 +60,7 @@ slipLines (x ∷ xs) = slipLine x ++ slipLines xs
 
 -- score, line, sum
 abbrev pub scoreLine : (line : ℕ) → ℤ → List ℕ
-scoreLine line sum = scoreWord ++ (field (decimal line) ++ (field (signed sum) ++ (10 ∷ [])))
+scoreLine line sum = codes "score" ++ (field (decimal line) ++ (field (signed sum) ++ (10 ∷ [])))
 
 -- the scores that are not 0 of so many lines from line k on
 unfoldable pub scoreLines : (lines k : ℕ) → (ℕ → ℤ) → List ℕ
@@ -81,4 +69,4 @@ scoreLines (suc lines) k scoreOf = cond (isZero (scoreOf k)) [] (scoreLine k (sc
 
 -- the record by station and line, the late slips as they arrived, the scores by line, end
 abbrev pub countText : (recorded : List (List ℤ)) (late : List Slip) → List ℕ
-countText recorded late = recordLines 0 recorded ++ (slipLines late ++ (scoreLines 32 0 (score recorded late) ++ (endWord ++ (10 ∷ []))))
+countText recorded late = recordLines 0 recorded ++ (slipLines late ++ (scoreLines 32 0 (score recorded late) ++ (codes "end" ++ (10 ∷ []))))

@@ -6,6 +6,7 @@ use mathlib.Core.List.{List, [], _∷_, _++_}
 use lib.Dec.{ltb}
 use lib.IntN.{ℤ, pos}
 use lib.ListN.{length, getD, set, replicate}
+use Rattle.std.specs.Options.{isSome}
 use Rattle.std.specs.declared.option.Option.{Option}
 use Rattle.std.specs.declared.option.Option.the-variants.{Some, None}
 use Rattle.sections.specs.Rule.{Rule, admits, blankSheet, entered, debited, credited}
@@ -60,10 +61,6 @@ orStays p (Some q) = q
 abbrev pub plainRun : Rule → PlainHouse → List Event → PlainHouse
 plainRun rule p [] = p
 plainRun rule p (e ∷ es) = plainRun rule (orStays p (plainStep rule p e)) es
-
-abbrev pub isSome : {X : Type 0} → Option X → Bool
-isSome None = false
-isSome (Some x) = true
 
 -- no event of the run is refused
 abbrev pub RefusesNone : Rule → PlainHouse → List Event → Type 0

@@ -1,31 +1,11 @@
+use crate::told::credited;
+use crate::told::gains;
+use crate::told::told;
 use sections::Bridge;
 use sections::BridgeSection;
-use sections::Cause;
-use sections::Fault;
 use sections::Section;
 use sections::fault::FaultDebug;
-use sections::fault::FaultPartialEq;
 use std::test::*;
-
-fn fault(cause: Cause, line: u32) -> Result<(), Fault> {
-    Err(Fault { cause, line })
-}
-
-// What lines 0 and 1 of a blank sheet have after one entry.
-fn gains(r: i32) -> Result<(i32, i32), Fault> {
-    let mut s: Bridge = BridgeSection::blank();
-    s.enter(0, 1, r)?;
-    Ok((s.figure(0)?, s.figure(1)?))
-}
-
-// A sheet whose line 0 has been credited that often.
-fn credited(times: u32, amount: i32) -> Result<Bridge, Fault> {
-    let mut s: Bridge = BridgeSection::blank();
-    for _ in 0..times {
-        s.credit(0, amount)?;
-    }
-    Ok(s)
-}
 
 #[test]
 fn each_step_of_the_scale_from_both_sides() -> Result<(), Fail> {
@@ -57,73 +37,86 @@ fn each_step_of_the_scale_from_both_sides() -> Result<(), Fail> {
     ];
     let mut imps = 0i32;
     for limit in limits {
-        check_eq(gains(limit)?, (imps, 0i32.wrapping_sub(imps)))?;
-        check_eq(
-            gains(0i32.wrapping_sub(limit))?,
-            (0i32.wrapping_sub(imps), imps),
-        )?;
+        let lost = 0i32.wrapping_sub(imps);
+        check_eq(gains::<Bridge>(limit)?, (imps, lost))?;
+        check_eq(gains::<Bridge>(0i32.wrapping_sub(limit))?, (lost, imps))?;
         imps = imps.wrapping_add(1);
+        let more = 0i32.wrapping_sub(imps);
         let past = limit.wrapping_add(10);
-        check_eq(gains(past)?, (imps, 0i32.wrapping_sub(imps)))?;
-        check_eq(
-            gains(0i32.wrapping_sub(past))?,
-            (0i32.wrapping_sub(imps), imps),
-        )?;
+        check_eq(gains::<Bridge>(past)?, (imps, more))?;
+        check_eq(gains::<Bridge>(0i32.wrapping_sub(past))?, (more, imps))?;
     }
     check_eq(imps, 24)
 }
 
 #[test]
-fn ends_of_a_difference() -> Result<(), Fail> {
-    check_eq(gains(0)?, (0, 0))?;
-    check_eq(gains(15_000)?, (24, -24))?;
-    check_eq(gains(-15_000)?, (-24, 24))?;
+fn entries() -> Result<(), Fail> {
+    for (r, won) in [(0, 0), (15_000, 24), (-15_000, -24)] {
+        check_eq(gains::<Bridge>(r)?, (won, 0i32.wrapping_sub(won)))?;
+    }
     let mut s: Bridge = BridgeSection::blank();
-    check_eq(s.enter(4, 5, 15_010), fault(Cause::BadResult, 4))?;
-    check_eq(s.enter(4, 5, -15_010), fault(Cause::BadResult, 4))?;
-    check_eq(s.enter(4, 5, 15), fault(Cause::BadResult, 4))?;
-    check_eq(s.enter(4, 5, -15), fault(Cause::BadResult, 4))?;
-    check_eq(s.enter(4, 5, i32::MIN), fault(Cause::BadResult, 4))
+    for (a, b, r, want) in [
+        (4, 5, 15_010, (6, 1, 4)),
+        (4, 5, -15_010, (6, 1, 4)),
+        (4, 5, 15, (6, 1, 4)),
+        (4, 5, -15, (6, 1, 4)),
+        (4, 5, i32::MIN, (6, 1, 4)),
+        (3, 3, 15, (6, 9, 3)),
+        (3, 32, 15, (6, 9, 3)),
+        (32, 3, 15, (6, 9, 32)),
+    ] {
+        check_eq(told(s.enter(a, b, r)), want)?;
+    }
+    check_eq(s.figure(4)?, 0)
 }
 
 #[test]
-fn ends_of_an_amount() -> Result<(), Fail> {
+fn amounts() -> Result<(), Fail> {
     let mut s: Bridge = BridgeSection::blank();
-    check_eq(s.credit(7, 0), fault(Cause::BadAmount, 7))?;
-    check_eq(s.credit(7, 1_001), fault(Cause::BadAmount, 7))?;
-    check_eq(s.debit(7, -1_001), fault(Cause::BadAmount, 7))?;
-    check_eq(s.debit(7, 0), fault(Cause::BadAmount, 7))?;
-    s.credit(7, 1_000)?;
-    s.credit(7, -1)?;
-    s.debit(7, -1_000)?;
-    s.debit(7, 1)?;
+    for (line, amount, want) in [
+        (7, 0, (6, 3, 7)),
+        (7, 1_001, (6, 3, 7)),
+        (7, -1_001, (6, 3, 7)),
+        (32, 0, (6, 9, 32)),
+        (u32::MAX, 1, (6, 9, u32::MAX)),
+        (7, 1_000, (0, 0, 0)),
+        (7, -1, (0, 0, 0)),
+    ] {
+        check_eq(told(s.credit(line, amount)), want)?;
+    }
+    check_eq(s.figure(7)?, 999)?;
+    for (line, amount, want) in [
+        (7, 0, (6, 3, 7)),
+        (7, 1_001, (6, 3, 7)),
+        (7, -1_001, (6, 3, 7)),
+        (32, 0, (6, 9, 32)),
+        (7, -1_000, (0, 0, 0)),
+        (7, 1, (0, 0, 0)),
+    ] {
+        check_eq(told(s.debit(line, amount)), want)?;
+    }
     check_eq(s.figure(7)?, 1_998)
 }
 
 #[test]
-fn ends_of_a_figure() -> Result<(), Fail> {
-    let mut top = credited(20, 1_000)?;
+fn figures_at_their_ends() -> Result<(), Fail> {
+    let mut top: Bridge = credited(1_000)?;
+    check_eq(told(top.credit(0, 1)), (6, 2, 0))?;
+    check_eq(told(top.credit(0, 1_001)), (6, 3, 0))?;
+    check_eq(told(top.debit(0, -1)), (6, 2, 0))?;
+    for (a, b, r, want) in [
+        (0, 2, 20, (6, 2, 0)),
+        (2, 0, -20, (6, 2, 0)),
+        (0, 2, 25, (6, 1, 0)),
+        (0, 1, 20, (6, 2, 0)),
+        (0, 1, -20, (6, 2, 1)),
+    ] {
+        check_eq(told(top.enter(a, b, r)), want)?;
+    }
     check_eq(top.figure(0)?, 20_000)?;
-    check_eq(top.credit(0, 1), fault(Cause::OutOfRange, 0))?;
-    check_eq(top.debit(0, -1), fault(Cause::OutOfRange, 0))?;
-    check_eq(top.enter(0, 1, 20), fault(Cause::OutOfRange, 0))?;
-    check_eq(top.enter(1, 0, -20), fault(Cause::OutOfRange, 0))?;
-    let mut low = credited(20, -1_000)?;
-    check_eq(low.figure(0)?, -20_000)?;
-    check_eq(low.debit(0, 1), fault(Cause::OutOfRange, 0))?;
-    check_eq(low.credit(0, -1), fault(Cause::OutOfRange, 0))?;
-    check_eq(low.enter(0, 1, -20), fault(Cause::OutOfRange, 0))?;
+    let mut low: Bridge = credited(-1_000)?;
+    check_eq(told(low.debit(0, 1)), (6, 2, 0))?;
+    check_eq(told(low.credit(0, -1)), (6, 2, 0))?;
+    check_eq(told(low.enter(0, 2, -20)), (6, 2, 0))?;
     check_eq(low.figure(0)?, -20_000)
-}
-
-#[test]
-fn causes_in_their_order() -> Result<(), Fail> {
-    let mut s = credited(20, 1_000)?;
-    check_eq(s.enter(3, 3, 15), fault(Cause::BadLines, 3))?;
-    check_eq(s.enter(3, 32, 15), fault(Cause::BadLines, 3))?;
-    check_eq(s.enter(32, 3, 15), fault(Cause::BadLines, 32))?;
-    check_eq(s.debit(32, 0), fault(Cause::BadLines, 32))?;
-    check_eq(s.credit(u32::MAX, 0), fault(Cause::BadLines, u32::MAX))?;
-    check_eq(s.enter(0, 1, 25), fault(Cause::BadResult, 0))?;
-    check_eq(s.credit(0, 1_001), fault(Cause::BadAmount, 0))
 }

@@ -1,4 +1,4 @@
-// Cases of the two sections at the edges of their rules; each is proved safe, and then run.
+// Cases of the two sections at the edges of their rules, as tables; each test is proved safe, and then run.
 
 #[cfg(test)]
 mod bridge_cases;
@@ -6,3 +6,5 @@ mod bridge_cases;
 mod chess_cases;
 #[cfg(test)]
 mod sum_cases;
+#[cfg(test)]
+mod told;

@@ -16,8 +16,10 @@ fn a_line_over_several_sheets() -> Result<(), Fail> {
     let mut two: Chess = ChessSection::blank();
     one.enter(0, 1, 2)?;
     two.enter(1, 0, 1)?;
-    check_eq(line_sum(&[one, two, one], 0)?, 5)?;
-    check_eq(line_sum(&[one, two, one], 1)?, 1)?;
+    let sheets = [one, two, one];
+    for (line, want) in [(0, 5), (1, 1), (2, 0)] {
+        check_eq(line_sum(&sheets, line)?, want)?;
+    }
     let mut won: Bridge = BridgeSection::blank();
     won.enter(2, 31, 4_000)?;
     check_eq(line_sum(&[won, won], 31)?, -48)

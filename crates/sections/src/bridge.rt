@@ -1,7 +1,6 @@
 ghost use mathlib.Core.Path.{_≡_};
 ghost use mathlib.Core.Bool.{true, false};
 ghost use Rattle.sections.specs.Bridge.{bridge, isAmount};
-use crate::fault::Cause;
 use crate::fault::Fault;
 use crate::figures::Figures;
 use crate::imps::both_imps;
@@ -36,31 +35,18 @@ pub impl Section for Bridge as BridgeSection {
     }
 
     fn debit(&mut self, line: u32, amount: i32) -> Result<(), Fault> {
-        let at = Line::new(line)?;
-        if !is_amount(amount) {
-            return Err(Fault {
-                cause: Cause::BadAmount,
-                line,
-            });
-        }
+        let at = Line::of_amount(line, is_amount(amount))?;
         self.figures.subtract(at, amount)?;
         Ok(())
     }
 
     fn credit(&mut self, line: u32, amount: i32) -> Result<(), Fault> {
-        let at = Line::new(line)?;
-        if !is_amount(amount) {
-            return Err(Fault {
-                cause: Cause::BadAmount,
-                line,
-            });
-        }
+        let at = Line::of_amount(line, is_amount(amount))?;
         self.figures.add(at, amount)?;
         Ok(())
     }
 
     fn figure(&self, line: u32) -> Result<i32, Fault> {
-        let at = Line::new(line)?;
-        Ok(self.figures.at(at))
+        self.figures.figure(line)
     }
 }

@@ -48,13 +48,7 @@ pub impl Section for Chess as ChessSection {
     }
 
     fn debit(&mut self, line: u32, amount: i32) -> Result<(), Fault> {
-        let at = Line::new(line)?;
-        if !is_amount(amount) {
-            return Err(Fault {
-                cause: Cause::BadAmount,
-                line,
-            });
-        }
+        let at = Line::of_amount(line, is_amount(amount))?;
         if amount > self.figures.at(at) {
             return Err(Fault {
                 cause: Cause::TooLittle,
@@ -66,19 +60,12 @@ pub impl Section for Chess as ChessSection {
     }
 
     fn credit(&mut self, line: u32, amount: i32) -> Result<(), Fault> {
-        let at = Line::new(line)?;
-        if !is_amount(amount) {
-            return Err(Fault {
-                cause: Cause::BadAmount,
-                line,
-            });
-        }
+        let at = Line::of_amount(line, is_amount(amount))?;
         self.figures.add(at, amount)?;
         Ok(())
     }
 
     fn figure(&self, line: u32) -> Result<i32, Fault> {
-        let at = Line::new(line)?;
-        Ok(self.figures.at(at))
+        self.figures.figure(line)
     }
 }

@@ -33,6 +33,14 @@ impl Figures {
         i32::from(self.marks[line.number() as usize])
     }
 
+    // The figure of a line, where there is one.
+    pub fn figure(&self, line: u32) -> Result<i32, Fault>
+        ensures { λ r. ⌜ Cases r (λ v. (line < 32) × (v ≡ figureAt (now (self .entry) .marks) line)) (λ f. (32 ≤ line) × (faultCode f ≡ (6, 9, line))) ⌝ }
+    {
+        let at = Line::new(line)?;
+        Ok(self.at(at))
+    }
+
     // A new figure of a line, where it is in the range.
     fn put(&mut self, line: Line, figure: i64) -> Result<(), Fault>
         ensures { λ r. ⌜ Cases r (λ _. (isFigure figure ≡ true) × (now (self .exit) .marks ≡ set (now (self .entry) .marks) (line .number) figure)) (λ f. (isFigure figure ≡ false) × (faultCode f ≡ (6, 2, line .number)) × (now (self .exit) ≡ now (self .entry))) ⌝ }

@@ -1,4 +1,5 @@
 ghost use mathlib.Core.Path.{_≡_};
+ghost use mathlib.Core.Bool.{true, false};
 ghost use Prim.Native.Nat.{ℕ, _<_, _≤_};
 ghost use Rattle.std.specs.Results.{Cases};
 ghost use Rattle.sections.specs.Codes.{faultCode};
@@ -23,6 +24,20 @@ impl Line {
             });
         }
         Ok(Line { number: line })
+    }
+
+    // The line of a debit or a credit, whose amount is good or not.
+    pub fn of_amount(line: u32, good: bool) -> Result<Line, Fault>
+        ensures { λ r. ⌜ Cases r (λ l. (line < 32) × (good ≡ true) × (l .number ≡ line)) (λ f. (line < 32 → (good ≡ false) × (faultCode f ≡ (6, 3, line))) × (32 ≤ line → faultCode f ≡ (6, 9, line))) ⌝ }
+    {
+        let at = Line::new(line)?;
+        if !good {
+            return Err(Fault {
+                cause: Cause::BadAmount,
+                line,
+            });
+        }
+        Ok(at)
     }
 
     pub fn number(self) -> u32
