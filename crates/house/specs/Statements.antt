@@ -7,8 +7,7 @@ use mathlib.Core.Logic.{_↔_}
 use lib.IntN.{ℤ, pos}
 use Rattle.std.specs.shelf.Lists.{All}
 use Rattle.std.specs.shelf.Sorted.{Shuffled}
-use Rattle.sections.specs.Rule.{Rule}
-use Rattle.sections.specs.Rule.{Lawful}
+use Rattle.sections.specs.Rule.{Rule, Lawful}
 use Rattle.methods.specs.Model.{Model}
 use Rattle.house.specs.declared.phase.Phase.the-variants.{Closed}
 use Rattle.house.specs.Names.{slipsOf}

@@ -2,6 +2,7 @@
 use Prim.Native.Nat.{ℕ}
 use mathlib.Core.Path.{_≡_}
 use mathlib.Core.List.{List, [], _∷_, _++_}
+use lib.Chars.{codes}
 use lib.IntN.{ℤ, pos}
 use lib.ListN.{set, replicate}
 use Rattle.sections.specs.Rule.{blankSheet}
@@ -44,16 +45,8 @@ workedCalls =
     ∷ file 2 (replicate 80 0)
     ∷ []
 
--- sheet 1 3 1, slip 1 1 2 2 1, slip 0 1 1 0 2, score 0 2, score 2 1, score 3 1, end
 abbrev pub workedText : List ℕ
-workedText =
-    (115 ∷ 104 ∷ 101 ∷ 101 ∷ 116 ∷ 9 ∷ 49 ∷ 9 ∷ 51 ∷ 9 ∷ 49 ∷ 10 ∷ [])
-    ++ ((115 ∷ 108 ∷ 105 ∷ 112 ∷ 9 ∷ 49 ∷ 9 ∷ 49 ∷ 9 ∷ 50 ∷ 9 ∷ 50 ∷ 9 ∷ 49 ∷ 10 ∷ [])
-    ++ ((115 ∷ 108 ∷ 105 ∷ 112 ∷ 9 ∷ 48 ∷ 9 ∷ 49 ∷ 9 ∷ 49 ∷ 9 ∷ 48 ∷ 9 ∷ 50 ∷ 10 ∷ [])
-    ++ ((115 ∷ 99 ∷ 111 ∷ 114 ∷ 101 ∷ 9 ∷ 48 ∷ 9 ∷ 50 ∷ 10 ∷ [])
-    ++ ((115 ∷ 99 ∷ 111 ∷ 114 ∷ 101 ∷ 9 ∷ 50 ∷ 9 ∷ 49 ∷ 10 ∷ [])
-    ++ ((115 ∷ 99 ∷ 111 ∷ 114 ∷ 101 ∷ 9 ∷ 51 ∷ 9 ∷ 49 ∷ 10 ∷ [])
-    ++ (101 ∷ 110 ∷ 100 ∷ 10 ∷ []))))))
+workedText = codes "sheet\t1\t3\t1\nslip\t1\t1\t2\t2\t1\nslip\t0\t1\t1\t0\t2\nscore\t0\t2\nscore\t2\t1\nscore\t3\t1\nend\n"
 
 abbrev pub workedTold : List Told
 workedTold =

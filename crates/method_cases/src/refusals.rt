@@ -1,27 +1,13 @@
-ghost use mathlib.Core.Path.{_≡_};
-ghost use Rattle.methods.specs.Codes.{methodCode};
 use methods::Method;
 use methods::MethodRefusal;
 use std::io;
-
-// The number of a refusal.
-fn number(refusal: MethodRefusal) -> u32
-    ensures { λ r. ⌜ (r, 0, 0) ≡ methodCode refusal ⌝ }
-{
-    match refusal {
-        MethodRefusal::BadBegin => 23,
-        MethodRefusal::StillOutstanding => 24,
-        MethodRefusal::NoSuchStation => 25,
-        MethodRefusal::NothingOutstanding => 26,
-    }
-}
 
 fn tell(rt: &impl Print, answer: Result<u32, MethodRefusal>, left: u32) -> io::Result<()> {
     match answer {
         Ok(sent) => println!(rt, "ok {sent}, left {left}"),
         Err(refusal) => {
-            let code = number(refusal);
-            println!(rt, "no {code} 0 0, left {left}")
+            let (number, cause, line) = refusal.code();
+            println!(rt, "no {number} {cause} {line}, left {left}")
         }
     }
 }

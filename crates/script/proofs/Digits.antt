@@ -1,19 +1,17 @@
 -- Digits of a field, from the first on.
 use Prim.Native.Nat.{ℕ, zero, suc, _+_, _-_, _*_, _^_, _<_, _≤_}
 use mathlib.Core.Path.{_≡_, refl, sym, ap, _∙_}
-use mathlib.Core.Bool.{Bool, true, false, cond, _&&_}
+use mathlib.Core.Bool.{Bool, true, false}
 use mathlib.Core.List.{List, [], _∷_}
 use lib.Dec.{eqb, leb}
-use lib.IntN.{ℤ, pos, negℤ}
 use lib.ListN.{length, getD, take, drop, length-drop}
 use native.Mathlib.Omega.{arith}
 use native.Mathlib.Nat.{pow-succ', mul-assoc, mul-le-mul-right, le-mul-of-pos-right, one-le-pow}
 use Rattle.std.proofs.shelf.Ways.{tells}
 use Rattle.std.proofs.shelf.Lists.{take-all}
 use Rattle.std.specs.shelf.Text.{allDigits}
-use Rattle.std.specs.declared.option.Option.{Option}
 use Rattle.std.specs.declared.option.Option.the-variants.{Some, None}
-use Rattle.script.specs.Numbers.{readOn, digitsAfter, natural, number, positive, negative}
+use Rattle.script.specs.Numbers.{digitsAfter, natural, number, positive, negative}
 
 -- there is room for one digit more
 pub room-step : (n d room : ℕ) → d < 10 → 0 < room → (n + 1) * 10 ^ room ≤ 10 ^ 9 → (n * 10 + d + 1) * 10 ^ (room - 1) ≤ 10 ^ 9

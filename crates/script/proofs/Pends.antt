@@ -1,6 +1,6 @@
 -- One byte more of a line.
-use Prim.Native.Nat.{ℕ, _+_, _<_, min}
-use mathlib.Core.Path.{_≡_, refl, _∙_}
+use Prim.Native.Nat.{ℕ, _+_, _<_}
+use mathlib.Core.Path.{_≡_}
 use mathlib.Core.Bool.{Bool, true, false}
 use mathlib.Core.List.{List, [], _∷_, _++_}
 use lib.Dec.{ltb}
@@ -8,7 +8,6 @@ use lib.ListN.{length, take, set}
 use native.Mathlib.Omega.{arith}
 use Rattle.std.proofs.shelf.Ways.{tells}
 use Rattle.std.proofs.shelf.Lists.{take-more-set, length-take-le}
-use Rattle.std.specs.declared.option.Option.the-variants.{Some, None}
 use Rattle.script.specs.Pending.{held, added}
 
 pub one-more : (cells : List ℕ) (len byte : ℕ) (long : Bool) → length cells ≡ 80 → len < 80 → long ≡ false → held (set cells len byte) (len + 1) long ≡ added (held cells len long) byte

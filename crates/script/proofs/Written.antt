@@ -1,8 +1,7 @@
 -- A number that is written is read back.
-use Prim.Native.Nat.{ℕ, suc, _+_, _^_, _<_, _≤_}
-use mathlib.Core.Path.{_≡_, refl}
+use Prim.Native.Nat.{ℕ, suc, _^_, _<_}
+use mathlib.Core.Path.{_≡_}
 use mathlib.Core.Bool.{true, false}
-use mathlib.Core.List.{List, _∷_}
 use lib.Dec.{leb, eqb}
 use lib.IntN.{ℤ, pos, negsuc, natAbs}
 use lib.ListN.{length, getD}
@@ -31,6 +30,9 @@ no-minus n h =
     let m = not-in-digits own (decimal n) 45 (digits-decimal own n (omega arith)) (λ i. omega arith) 0 s in
     grind (arith, tells)
 
+number-back : (z : ℤ) → natAbs z < 10 ^ 9 → number (signed z) ≡ Some z
+number-back (pos n) h = rw (no-minus n h, natural-back n h)
+number-back (negsuc n) h = rw (natural-back (suc n) h)
+
 pub reads-back : Reads-back
-reads-back (pos n) h = rw (no-minus n h, natural-back n h)
-reads-back (negsuc n) h = rw (natural-back (suc n) h)
+reads-back = record { natural-back = natural-back; number-back = number-back }

@@ -7,7 +7,7 @@ use lib.IntN.{ℤ, pos}
 use Rattle.std.specs.declared.option.Option.{Option}
 use Rattle.std.specs.declared.option.Option.the-variants.{Some, None}
 
--- the code of a letter: a win of the first line, a draw, a loss, nobody scored
+-- the code of a letter: w a win of the first line, d a draw, l a loss, n nobody scored (bytes 119, 100, 108, 110)
 abbrev pub letterCode : ℕ → Option ℤ
 letterCode c = cond (eqb c 119) (Some (pos 2)) (cond (eqb c 100) (Some (pos 1)) (cond (eqb c 108) (Some (pos 0)) (cond (eqb c 110) (Some (pos 3)) None)))
 

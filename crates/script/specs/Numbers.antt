@@ -1,12 +1,12 @@
 -- Numbers as a script writes them.
 use Prim.Native.Nat.{ℕ, _+_, _-_, _*_, _^_, _<_}
 use mathlib.Core.Path.{_≡_}
-use mathlib.Core.Bool.{Bool, cond, _&&_}
+use mathlib.Core.Bool.{cond, _&&_}
 use mathlib.Core.List.{List, [], _∷_}
 use lib.Dec.{eqb, leb}
 use lib.IntN.{ℤ, pos, negℤ, natAbs}
 use lib.ListN.{length, getD, drop}
-use Rattle.std.specs.Written.{signed}
+use Rattle.std.specs.Written.{decimal, signed}
 use Rattle.std.specs.shelf.Text.{allDigits}
 use Rattle.std.specs.declared.option.Option.{Option}
 use Rattle.std.specs.declared.option.Option.the-variants.{Some, None}
@@ -37,5 +37,6 @@ abbrev pub number : List ℕ → Option ℤ
 number bs = cond (eqb (getD bs 0 0) 45) (negative (natural (drop 1 bs))) (positive (natural bs))
 
 -- what is written of a number of at most nine digits is read as that number
-abbrev pub Reads-back : Type 0
-Reads-back = (z : ℤ) → natAbs z < 10 ^ 9 → number (signed z) ≡ Some z
+pub record Reads-back : Type 0 where
+  pub natural-back : (n : ℕ) → n < 10 ^ 9 → natural (decimal n) ≡ Some n
+  pub number-back : (z : ℤ) → natAbs z < 10 ^ 9 → number (signed z) ≡ Some z

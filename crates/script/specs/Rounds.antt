@@ -1,6 +1,6 @@
 -- A round that is scored line by line.
 use Prim.Native.Nat.{ℕ}
-use mathlib.Core.Bool.{Bool, cond}
+use mathlib.Core.Bool.{cond}
 use mathlib.Core.List.{List, []}
 use lib.IntN.{ℤ}
 use Rattle.std.specs.declared.option.Option.{Option}

@@ -7,7 +7,7 @@ ghost use Rattle.script.specs.Entries.{entryOf};
 ghost use Rattle.script.specs.Did.{LineDid};
 ghost use Rattle.script.specs.Letters.{chessResult};
 ghost use Rattle.script.specs.Numbers.{number};
-use crate::fields::cut;
+use crate::fields::first_field;
 use crate::letters::read_letter;
 use crate::numbers::read_natural;
 use crate::numbers::read_number;
@@ -55,8 +55,8 @@ pub impl ResultField for Bridge as BridgeResult {
 pub fn read_entry<S: ResultField>(line: &[u8]) -> Option<Entry>
     ensures { λ r. ⌜ r ≡ entryOf (S·ResultField .result) (now (line .entry)) ⌝ }
 {
-    let (first, more) = cut(line);
-    let (second, last) = cut(more?);
+    let (first, more) = first_field(line);
+    let (second, last) = first_field(more?);
     let a = read_natural(first);
     let b = read_natural(second);
     let r = S::read_result(last?);

@@ -3,7 +3,7 @@ ghost use Rattle.std.specs.Options.{mapped};
 ghost use Rattle.script.specs.Fields.{field, rest};
 
 // The first field of a line, and what follows the tab after it.
-pub fn cut(line: &[u8]) -> (&[u8], Option<&[u8]>)
+pub fn first_field(line: &[u8]) -> (&[u8], Option<&[u8]>)
     ensures first { λ r. ⌜ now (r .0) ≡ field (now (line .entry)) ⌝ }
     ensures more { λ r. ⌜ mapped now (r .1) ≡ rest (now (line .entry)) ⌝ }
 {

@@ -14,7 +14,7 @@ pub use entries::Entry;
 pub use entries::ResultField;
 pub use entries::enter_line;
 pub use entries::read_entry;
-pub use fields::cut;
+pub use fields::first_field;
 pub use letters::read_letter;
 pub use numbers::read_natural;
 pub use numbers::read_number;

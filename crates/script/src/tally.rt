@@ -5,7 +5,7 @@ ghost use Rattle.std.specs.Vec.{made};
 ghost use Rattle.std.specs.Of.String.{string-bytes};
 ghost use Rattle.std.specs.declared.option.Option.the-variants.{Some};
 ghost use Rattle.script.specs.Codes.{refusalCode};
-ghost use Rattle.script.specs.Rounds.{Round, waiting, answerCode, played, endText};
+ghost use Rattle.script.specs.Rounds.{waiting, answerCode, played, endText};
 ghost use Rattle.script.specs.Tallied.{roundOf};
 use crate::entries::BridgeResult;
 use crate::entries::ChessResult;

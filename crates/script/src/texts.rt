@@ -1,5 +1,5 @@
 ghost use mathlib.Core.Path.{_≡_};
-ghost use Prim.Native.Nat.{ℕ, _<_, _≤_};
+ghost use Prim.Native.Nat.{_<_};
 ghost use Rattle.std.specs.Vec.{made};
 ghost use Rattle.std.specs.Of.String.{string-bytes};
 ghost use Rattle.sections.specs.Rule.{figureAt};
@@ -64,9 +64,10 @@ fn line_text<S: Section>(heap: Global, sheet: &S, line: u32) -> Result<String, A
     }
 }
 
-// The scores of a sheet: each line whose figure is not 0, in order.
+// The scores of a sheet: each line whose figure is not 0, in order. Its numbers can be read back.
 pub fn scores_text<S: Section>(heap: Global, sheet: &S) -> Result<String, AllocError>
-    ensures { λ r. ⌜ made r (λ s. string-bytes s ≡ scoresText (S·Section .figures (now (sheet .entry))) 32) ⌝ }
+    ensures text { λ r. ⌜ made r (λ s. string-bytes s ≡ scoresText (S·Section .figures (now (sheet .entry))) 32) ⌝ }
+    ensures back { λ _. ⌜ Reads-back ⌝ }
 {
     let mut text = String::new(heap);
     for line in 0..32 {

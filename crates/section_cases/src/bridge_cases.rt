@@ -1,6 +1,7 @@
 use crate::told::credited;
 use crate::told::gains;
 use crate::told::told;
+use crate::told::told_figure;
 use sections::Bridge;
 use sections::BridgeSection;
 use sections::Section;
@@ -67,6 +68,7 @@ fn entries() -> Result<(), Fail> {
     ] {
         check_eq(told(s.enter(a, b, r)), want)?;
     }
+    check_eq(told_figure(s.figure(32)), (6, 9, 32))?;
     check_eq(s.figure(4)?, 0)
 }
 
@@ -95,7 +97,10 @@ fn amounts() -> Result<(), Fail> {
     ] {
         check_eq(told(s.debit(line, amount)), want)?;
     }
-    check_eq(s.figure(7)?, 1_998)
+    for (line, want) in [(6, 0), (7, 1_998), (8, 0)] {
+        check_eq(s.figure(line)?, want)?;
+    }
+    Ok(())
 }
 
 #[test]

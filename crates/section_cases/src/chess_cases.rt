@@ -1,6 +1,7 @@
 use crate::told::credited;
 use crate::told::gains;
 use crate::told::told;
+use crate::told::told_figure;
 use sections::Chess;
 use sections::ChessSection;
 use sections::Section;
@@ -22,6 +23,7 @@ fn entries() -> Result<(), Fail> {
     ] {
         check_eq(told(s.enter(a, b, r)), want)?;
     }
+    check_eq(told_figure(s.figure(32)), (6, 9, 32))?;
     check_eq(s.figure(6)?, 0)
 }
 
@@ -81,6 +83,15 @@ fn amounts() -> Result<(), Fail> {
     ] {
         check_eq(told(s.debit(line, amount)), want)?;
     }
-    check_eq(s.figure(3)?, 0)?;
-    check_eq(s.figure(0)?, 19_000)
+    for (line, want) in [
+        (0, 19_000),
+        (1, 20_000),
+        (2, 0),
+        (3, 0),
+        (4, 1_000),
+        (31, 0),
+    ] {
+        check_eq(s.figure(line)?, want)?;
+    }
+    Ok(())
 }

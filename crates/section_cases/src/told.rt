@@ -9,6 +9,14 @@ pub fn told(answer: Result<(), Fault>) -> (u8, u8, u32) {
     }
 }
 
+// The same of a figure that is asked for.
+pub fn told_figure(answer: Result<i32, Fault>) -> (u8, u8, u32) {
+    match answer {
+        Ok(_) => (0, 0, 0),
+        Err(fault) => fault.code(),
+    }
+}
+
 // What lines 0 and 1 of a blank sheet have after one entry.
 pub fn gains<S: Section>(r: i32) -> Result<(i32, i32), Fault> {
     let mut s = S::blank();

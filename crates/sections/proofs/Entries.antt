@@ -4,7 +4,7 @@ use mathlib.Core.Path.{_≡_, refl, sym}
 use mathlib.Core.Bool.{Bool, true, false}
 use mathlib.Core.List.{List}
 use lib.IntN.{ℤ, _+ℤ_}
-use Rattle.std.specs.declared.option.Option.the-variants.{Some, None}
+use Rattle.std.specs.declared.option.Option.the-variants.{Some}
 use Rattle.sections.specs.Rule.{admits, goodLines, figureAt}
 use Rattle.sections.specs.Codes.{verdictCode}
 use Rattle.sections.specs.Judged.{isFigure, pairEntry}

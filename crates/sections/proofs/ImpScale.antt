@@ -1,9 +1,9 @@
 -- The rule of a bridge entry, by what its difference gives the two lines.
-use Prim.Native.Nat.{ℕ, suc, _+_, _≤_, _%_}
+use Prim.Native.Nat.{ℕ, _≤_, _%_}
 use mathlib.Core.Path.{_≡_, refl, ap}
 use mathlib.Core.Bool.{Bool, true, false, cond, _&&_}
 use mathlib.Core.List.{List, [], _∷_}
-use lib.Dec.{eqb, leb, ltb}
+use lib.Dec.{eqb, leb}
 use lib.IntN.{ℤ, pos, negsuc, negℤ, natAbs}
 use lib.ListN.{length}
 use lib.Signed.{ltZ, _≤ℤ_}
@@ -13,7 +13,7 @@ use Rattle.std.proofs.shelf.Ways.{tells}
 use Rattle.std.specs.declared.option.Option.{Option}
 use Rattle.std.specs.declared.option.Option.the-variants.{Some, None}
 use Rattle.sections.specs.Judged.{pairEntry}
-use Rattle.sections.specs.Bridge.{bridgeEntry, isDifference, imps, bothImps, scale, passed, limits}
+use Rattle.sections.specs.Bridge.{bridgeEntry, isDifference, bothImps, scale, passed, limits}
 
 passed-few : (ls : List ℕ) (size : ℕ) → passed ls size ≤ length ls
 passed-few [] size = omega arith

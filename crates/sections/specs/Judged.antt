@@ -39,6 +39,7 @@ abbrev pub pairGains : (a b : ℕ) → Option (ℤ × ℤ) → (line : ℕ) → 
 pairGains a b None line = pos 0
 pairGains a b (Some g) line = pairGain a b (g .0) (g .1) line
 
+-- what is said of such an entry: bad lines, no result, or a new figure out of the range
 abbrev pub pairEntry : List ℤ → (a b : ℕ) → Option (ℤ × ℤ) → Verdict
 pairEntry f a b None = judged (test (goodLines a b) 9 a ∷ test false 1 a ∷ [])
 pairEntry f a b (Some g) =

@@ -1,5 +1,5 @@
 -- A section's meaning: the figures of a sheet, and the rule that says which call is admitted and what an entry gains.
-use Prim.Native.Nat.{ℕ, _+_, _<_}
+use Prim.Native.Nat.{ℕ, _+_}
 use mathlib.Core.Path.{_≡_}
 use mathlib.Core.Bool.{Bool, true, false, not, _&&_}
 use mathlib.Core.List.{List, [], _∷_}

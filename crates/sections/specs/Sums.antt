@@ -1,6 +1,6 @@
 -- A line's sum over several sheets.
 use Prim.Native.Nat.{ℕ}
-use mathlib.Core.List.{List, [], _∷_}
+use mathlib.Core.List.{List}
 use lib.IntN.{ℤ, pos, _+ℤ_}
 use Rattle.std.specs.Iters.{folded}
 use Rattle.sections.specs.Rule.{figureAt}

@@ -1,6 +1,6 @@
 ghost use mathlib.Core.Path.{_≡_};
 ghost use mathlib.Core.Bool.{true, false};
-ghost use Prim.Native.Nat.{ℕ, _<_, _≤_};
+ghost use Prim.Native.Nat.{_<_, _≤_};
 ghost use lib.IntN.{ℤ, _+ℤ_, _-ℤ_};
 ghost use lib.ListN.{length, set};
 ghost use Rattle.std.specs.Results.{Cases};
@@ -14,28 +14,28 @@ use crate::pair::Pair;
 
 // The 32 figures of a sheet, each from -20,000 to 20,000.
 #[derive(Clone, Copy)]
-pub struct Figures {
-    marks: [i16; 32],
-    ghost size: { length marks ≡ 32 },
-    ghost range: { Within 20000 marks },
+pub(crate) struct Figures {
+    values: [i16; 32],
+    ghost size: { length values ≡ 32 },
+    ghost range: { Within 20000 values },
 }
 
 impl Figures {
-    pub fn zero() -> Figures
-        ensures { λ r. ⌜ r .marks ≡ blankSheet ⌝ }
+    pub(crate) fn zero() -> Figures
+        ensures { λ r. ⌜ r .values ≡ blankSheet ⌝ }
     {
-        Figures { marks: [0; 32] }
+        Figures { values: [0; 32] }
     }
 
-    pub fn at(&self, line: Line) -> i32
-        ensures { λ r. ⌜ r ≡ figureAt (now (self .entry) .marks) (line .number) ⌝ }
+    pub(crate) fn at(&self, line: Line) -> i32
+        ensures { λ r. ⌜ r ≡ figureAt (now (self .entry) .values) (line .number) ⌝ }
     {
-        i32::from(self.marks[line.number() as usize])
+        i32::from(self.values[line.number() as usize])
     }
 
     // The figure of a line, where there is one.
-    pub fn figure(&self, line: u32) -> Result<i32, Fault>
-        ensures { λ r. ⌜ Cases r (λ v. (line < 32) × (v ≡ figureAt (now (self .entry) .marks) line)) (λ f. (32 ≤ line) × (faultCode f ≡ (6, 9, line))) ⌝ }
+    pub(crate) fn figure(&self, line: u32) -> Result<i32, Fault>
+        ensures { λ r. ⌜ Cases r (λ v. (line < 32) × (v ≡ figureAt (now (self .entry) .values) line)) (λ f. (32 ≤ line) × (faultCode f ≡ (6, 9, line))) ⌝ }
     {
         let at = Line::new(line)?;
         Ok(self.at(at))
@@ -43,7 +43,7 @@ impl Figures {
 
     // A new figure of a line, where it is in the range.
     fn put(&mut self, line: Line, figure: i64) -> Result<(), Fault>
-        ensures { λ r. ⌜ Cases r (λ _. (isFigure figure ≡ true) × (now (self .exit) .marks ≡ set (now (self .entry) .marks) (line .number) figure)) (λ f. (isFigure figure ≡ false) × (faultCode f ≡ (6, 2, line .number)) × (now (self .exit) ≡ now (self .entry))) ⌝ }
+        ensures { λ r. ⌜ Cases r (λ _. (isFigure figure ≡ true) × (now (self .exit) .values ≡ set (now (self .entry) .values) (line .number) figure)) (λ f. (isFigure figure ≡ false) × (faultCode f ≡ (6, 2, line .number)) × (now (self .exit) ≡ now (self .entry))) ⌝ }
     {
         if figure < -20_000 || figure > 20_000 {
             return Err(Fault {
@@ -51,27 +51,27 @@ impl Figures {
                 line: line.number(),
             });
         }
-        self.marks[line.number() as usize] = figure as i16;
+        self.values[line.number() as usize] = figure as i16;
         Ok(())
     }
 
     // Adds to the figure of a line, where it stays in the range.
-    pub fn add(&mut self, line: Line, by: i32) -> Result<(), Fault>
-        ensures { λ r. ⌜ Cases r (λ _. (isFigure (figureAt (now (self .entry) .marks) (line .number) +ℤ by) ≡ true) × (now (self .exit) .marks ≡ set (now (self .entry) .marks) (line .number) (figureAt (now (self .entry) .marks) (line .number) +ℤ by))) (λ f. (isFigure (figureAt (now (self .entry) .marks) (line .number) +ℤ by) ≡ false) × (faultCode f ≡ (6, 2, line .number)) × (now (self .exit) ≡ now (self .entry))) ⌝ }
+    pub(crate) fn add(&mut self, line: Line, by: i32) -> Result<(), Fault>
+        ensures { λ r. ⌜ Cases r (λ _. (isFigure (figureAt (now (self .entry) .values) (line .number) +ℤ by) ≡ true) × (now (self .exit) .values ≡ set (now (self .entry) .values) (line .number) (figureAt (now (self .entry) .values) (line .number) +ℤ by))) (λ f. (isFigure (figureAt (now (self .entry) .values) (line .number) +ℤ by) ≡ false) × (faultCode f ≡ (6, 2, line .number)) × (now (self .exit) ≡ now (self .entry))) ⌝ }
     {
         self.put(line, i64::from(self.at(line)) + i64::from(by))
     }
 
     // Takes from the figure of a line, where it stays in the range.
-    pub fn subtract(&mut self, line: Line, by: i32) -> Result<(), Fault>
-        ensures { λ r. ⌜ Cases r (λ _. (isFigure (figureAt (now (self .entry) .marks) (line .number) -ℤ by) ≡ true) × (now (self .exit) .marks ≡ set (now (self .entry) .marks) (line .number) (figureAt (now (self .entry) .marks) (line .number) -ℤ by))) (λ f. (isFigure (figureAt (now (self .entry) .marks) (line .number) -ℤ by) ≡ false) × (faultCode f ≡ (6, 2, line .number)) × (now (self .exit) ≡ now (self .entry))) ⌝ }
+    pub(crate) fn subtract(&mut self, line: Line, by: i32) -> Result<(), Fault>
+        ensures { λ r. ⌜ Cases r (λ _. (isFigure (figureAt (now (self .entry) .values) (line .number) -ℤ by) ≡ true) × (now (self .exit) .values ≡ set (now (self .entry) .values) (line .number) (figureAt (now (self .entry) .values) (line .number) -ℤ by))) (λ f. (isFigure (figureAt (now (self .entry) .values) (line .number) -ℤ by) ≡ false) × (faultCode f ≡ (6, 2, line .number)) × (now (self .exit) ≡ now (self .entry))) ⌝ }
     {
         self.put(line, i64::from(self.at(line)) - i64::from(by))
     }
 
     // Adds to the figures of two lines, where both stay in the range.
     fn add_pair(&mut self, pair: Pair, x: i32, y: i32) -> Result<(), Fault>
-        ensures { λ r. ⌜ Cases r (λ _. (isFigure (figureAt (now (self .entry) .marks) (pair .a .number) +ℤ x) ≡ true) × (isFigure (figureAt (now (self .entry) .marks) (pair .b .number) +ℤ y) ≡ true) × (now (self .exit) .marks ≡ entered (now (self .entry) .marks) (pairGain (pair .a .number) (pair .b .number) x y))) (λ f. (isFigure (figureAt (now (self .entry) .marks) (pair .a .number) +ℤ x) ≡ false → faultCode f ≡ (6, 2, pair .a .number)) × (isFigure (figureAt (now (self .entry) .marks) (pair .a .number) +ℤ x) ≡ true → (isFigure (figureAt (now (self .entry) .marks) (pair .b .number) +ℤ y) ≡ false) × (faultCode f ≡ (6, 2, pair .b .number))) × (now (self .exit) ≡ now (self .entry))) ⌝ }
+        ensures { λ r. ⌜ Cases r (λ _. (isFigure (figureAt (now (self .entry) .values) (pair .a .number) +ℤ x) ≡ true) × (isFigure (figureAt (now (self .entry) .values) (pair .b .number) +ℤ y) ≡ true) × (now (self .exit) .values ≡ entered (now (self .entry) .values) (pairGain (pair .a .number) (pair .b .number) x y))) (λ f. (isFigure (figureAt (now (self .entry) .values) (pair .a .number) +ℤ x) ≡ false → faultCode f ≡ (6, 2, pair .a .number)) × (isFigure (figureAt (now (self .entry) .values) (pair .a .number) +ℤ x) ≡ true → (isFigure (figureAt (now (self .entry) .values) (pair .b .number) +ℤ y) ≡ false) × (faultCode f ≡ (6, 2, pair .b .number))) × (now (self .exit) ≡ now (self .entry))) ⌝ }
     {
         let mut next = *self;
         next.add(pair.first(), x)?;
@@ -81,8 +81,8 @@ impl Figures {
     }
 
     // An entry: each of two lines gains its part of the result, where there is one.
-    pub fn enter(&mut self, a: u32, b: u32, gains: Option<(i32, i32)>) -> Result<(), Fault>
-        ensures { λ r. ⌜ Cases r (λ _. (admits (pairEntry (now (self .entry) .marks) a b gains) ≡ true) × (now (self .exit) .marks ≡ entered (now (self .entry) .marks) (pairGains a b gains))) (λ f. (admits (pairEntry (now (self .entry) .marks) a b gains) ≡ false) × (verdictCode (pairEntry (now (self .entry) .marks) a b gains) ≡ faultCode f) × (now (self .exit) ≡ now (self .entry))) ⌝ }
+    pub(crate) fn enter(&mut self, a: u32, b: u32, gains: Option<(i32, i32)>) -> Result<(), Fault>
+        ensures { λ r. ⌜ Cases r (λ _. (admits (pairEntry (now (self .entry) .values) a b gains) ≡ true) × (now (self .exit) .values ≡ entered (now (self .entry) .values) (pairGains a b gains))) (λ f. (admits (pairEntry (now (self .entry) .values) a b gains) ≡ false) × (verdictCode (pairEntry (now (self .entry) .values) a b gains) ≡ faultCode f) × (now (self .exit) ≡ now (self .entry))) ⌝ }
     {
         let pair = Pair::new(a, b)?;
         let Some((first, second)) = gains else {

@@ -2,7 +2,7 @@ ghost use mathlib.Core.Path.{_≡_};
 ghost use Rattle.sections.specs.Bridge.{scale, bothImps};
 
 // The IMPs for the size of a difference in points, or nothing where no board has such a difference.
-pub fn imps_of_size(size: u32) -> Option<i32>
+pub(crate) fn imps_of_size(size: u32) -> Option<i32>
     ensures { λ x. ⌜ x ≡ scale size ⌝ }
 {
     match size {
@@ -37,7 +37,7 @@ pub fn imps_of_size(size: u32) -> Option<i32>
 }
 
 // The IMPs of a difference with its sign, and their opposite: what the two lines gain.
-pub fn both_imps(r: i32) -> Option<(i32, i32)>
+pub(crate) fn both_imps(r: i32) -> Option<(i32, i32)>
     ensures { λ x. ⌜ x ≡ bothImps r ⌝ }
 {
     let won = imps_of_size(r.unsigned_abs())?;

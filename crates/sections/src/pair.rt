@@ -1,6 +1,5 @@
 ghost use mathlib.Core.Path.{_≡_};
 ghost use mathlib.Core.Bool.{true, false};
-ghost use Prim.Native.Nat.{ℕ, _<_, _≤_};
 ghost use Rattle.std.specs.Results.{Cases};
 ghost use Rattle.sections.specs.Codes.{faultCode};
 ghost use Rattle.sections.specs.Rule.{goodLines};
@@ -10,14 +9,14 @@ use crate::line::Line;
 
 // The two lines of an entry, which differ.
 #[derive(Clone, Copy)]
-pub struct Pair {
+pub(crate) struct Pair {
     a: Line,
     b: Line,
     ghost apart: { goodLines (a .number) (b .number) ≡ true },
 }
 
 impl Pair {
-    pub fn new(a: u32, b: u32) -> Result<Pair, Fault>
+    pub(crate) fn new(a: u32, b: u32) -> Result<Pair, Fault>
         ensures { λ r. ⌜ Cases r (λ p. (goodLines a b ≡ true) × (p .a .number ≡ a) × (p .b .number ≡ b)) (λ f. (goodLines a b ≡ false) × (faultCode f ≡ (6, 9, a))) ⌝ }
     {
         let fault = Fault {
@@ -37,13 +36,13 @@ impl Pair {
         })
     }
 
-    pub fn first(self) -> Line
+    pub(crate) fn first(self) -> Line
         ensures { λ r. ⌜ r .number ≡ self .a .number ⌝ }
     {
         self.a
     }
 
-    pub fn second(self) -> Line
+    pub(crate) fn second(self) -> Line
         ensures { λ r. ⌜ r .number ≡ self .b .number ⌝ }
     {
         self.b

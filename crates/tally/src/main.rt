@@ -5,9 +5,8 @@ use std::error::AnyError;
 use std::io::Read;
 
 // Answers one line of the script.
-fn answer(rt: &LibcRuntime, tally: &mut Tally, pending: &mut Pending) -> Result<(), AnyError> {
-    let told = answer_text(rt.alloc(), tally.play(pending.line()))?;
-    *pending = Pending::new();
+fn answer(rt: &LibcRuntime, tally: &mut Tally, line: &Pending) -> Result<(), AnyError> {
+    let told = answer_text(rt.alloc(), tally.play(line.line()))?;
     rt.print(told.as_str())?;
     Ok(())
 }
@@ -20,10 +19,8 @@ fn feed(
     bytes: &[u8],
 ) -> Result<(), AnyError> {
     for b in bytes {
-        if *b == b'\n' {
-            answer(rt, tally, pending)?;
-        } else {
-            pending.add(*b);
+        if let Some(line) = pending.feed(*b) {
+            answer(rt, tally, &line)?;
         }
     }
     Ok(())
@@ -35,6 +32,7 @@ fn run(rt: &LibcRuntime) -> Result<(), AnyError> {
     let mut pending = Pending::new();
     let mut buffer = [0u8; 4096];
     let mut input = rt.stdin();
+    // nothing says that an input ends, so the loop has a bound
     for _ in 0..u64::MAX {
         let n = input.read(&mut buffer)?;
         if n == 0 {
@@ -43,7 +41,7 @@ fn run(rt: &LibcRuntime) -> Result<(), AnyError> {
         feed(rt, &mut tally, &mut pending, &buffer[0..n])?;
     }
     if pending.is_begun() {
-        answer(rt, &mut tally, &mut pending)?;
+        answer(rt, &mut tally, &pending)?;
     }
     let scores = tally.end_text(rt.alloc())?;
     rt.print(scores.as_str())?;

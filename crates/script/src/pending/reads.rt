@@ -1,11 +1,10 @@
 ghost use mathlib.Core.Path.{_≡_};
-ghost use mathlib.Core.Bool.{Bool, true, false, not, _&&_};
-ghost use mathlib.Core.List.{List, [], _∷_};
-ghost use Prim.Native.Nat.{ℕ, _≤_};
+ghost use mathlib.Core.Bool.{true, false};
+ghost use mathlib.Core.List.{[]};
 ghost use lib.Dec.{eqb};
-ghost use Rattle.std.specs.Options.{mapped};
+ghost use Rattle.std.specs.Options.{Cases, mapped};
 ghost use Rattle.std.specs.declared.option.Option.the-variants.{Some, None};
-ghost use Rattle.script.specs.Pending.{held, added, begun};
+ghost use Rattle.script.specs.Pending.{held, added, fed, begun};
 use super::Pending;
 
 impl Pending {
@@ -33,6 +32,20 @@ impl Pending {
         }
         self.cells[self.len] = byte;
         self.len += 1;
+    }
+
+    // One byte of the input: a line end (byte 10) gives the line that it ends, and the next line begins.
+    pub fn feed(&mut self, byte: u8) -> Option<Pending>
+        ensures next { λ _. ⌜ held (now (self .exit) .cells) (now (self .exit) .len) (now (self .exit) .long) ≡ fed (held (now (self .entry) .cells) (now (self .entry) .len) (now (self .entry) .long)) byte ⌝ }
+        ensures ended { λ r. ⌜ Cases r (eqb byte 10 ≡ false) (λ line. (eqb byte 10 ≡ true) × (held (line .cells) (line .len) (line .long) ≡ held (now (self .entry) .cells) (now (self .entry) .len) (now (self .entry) .long))) ⌝ }
+    {
+        if byte != b'\n' {
+            self.add(byte);
+            return None;
+        }
+        let line = *self;
+        *self = Pending::new();
+        Some(line)
     }
 
     // The line, or nothing where it has more than 80 bytes.

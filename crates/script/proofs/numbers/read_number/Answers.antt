@@ -5,7 +5,7 @@ use lib.IntN.{pos, _-ℤ_, negℤ}
 use mir.Val.{toZ, ofZ}
 use mir.Syntax.{w32}
 use Rattle.std.proofs.shelf.Signed.{ints}
-use Rattle.script.proofs.Digits.{number-minus, number-plain, rest-is}
+use Rattle.script.proofs.Digits.{number-minus, rest-is}
 use Rattle.script.proofs.numbers.read_number.Needs as need
 
 pub returns-in-Some : need.returns-in-Some

@@ -13,7 +13,7 @@ returns-in-Break-add-2 c =
     let fy : SFits w32 (c .args .y) = c .fits .y in
     let p = simp (toZ-ofZ, c .first .ensures) at (c .in-Continue-add .ensures tt) in
     let q = simp (toZ-ofZ, c .second .ensures) at (c .in-Break-add-2 .ensures tt) in
-    let k = second-kept (c .args .self .now .marks) (c .add .last .self .marks) (c .args .pair .a .number) (c .args .pair .b .number) _ (c .args .pair .apart) (p .1) in
+    let k = second-kept (c .args .self .now .values) (c .add .last .self .values) (c .args .pair .a .number) (c .args .pair .b .number) _ (c .args .pair .apart) (p .1) in
     let e = err-from-errBy (c .from-residual-in-Break-add-2 .result) (c .from-residual-in-Break-add-2 .ensures .1) in
     rw (e .1, e .2) ((λ f. absurd (true≢false (sym (p .0) ∙ f))), (λ _. (rw k at (q .0), q .1)), refl)
 
@@ -23,5 +23,5 @@ returns c =
     let fy : SFits w32 (c .args .y) = c .fits .y in
     let p = simp (toZ-ofZ, c .first .ensures) at (c .in-Continue-add .ensures tt) in
     let q = simp (toZ-ofZ, c .second .ensures) at (c .in-Continue-add-2 .ensures tt) in
-    let k = second-kept (c .args .self .now .marks) (c .add .last .self .marks) (c .args .pair .a .number) (c .args .pair .b .number) _ (c .args .pair .apart) (p .1) in
+    let k = second-kept (c .args .self .now .values) (c .add .last .self .values) (c .args .pair .a .number) (c .args .pair .b .number) _ (c .args .pair .apart) (p .1) in
     (p .0, rw k at (q .0), pair-of-adds _ _ _ (c .args .pair .a .number) (c .args .pair .b .number) (c .args .x) (c .args .y) (c .args .pair .apart) (c .args .self .now .size) (p .1) (q .1))

@@ -12,7 +12,7 @@ returns c =
     let fx : SFits w32 (c .in-Some .first) = search needs in
     let fy : SFits w32 (c .in-Some .second) = search needs in
     let p = c .in-Continue-pair .ensures tt in
-    let m = c .args .self .now .marks in
+    let m = c .args .self .now .values in
     let n = simp (toZ-ofZ, p .1, p .2) at (c .add-pair .ensures) in
     rw (c .in-Some .is)
     (cases-weaker (c .add-pair .result) n

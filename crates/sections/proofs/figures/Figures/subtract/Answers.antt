@@ -17,6 +17,6 @@ returns c =
     let old = c .args .self .now in
     let line = c .args .line .number in
     let new = c .put .last .self in
-    let Put : ℤ → Type 0 = λ z. Cases (c .put .result) (λ _. (isFigure z ≡ true) × (new .marks ≡ set (old .marks) line z)) (λ f. (isFigure z ≡ false) × (faultCode f ≡ (6, 2, line)) × (new ≡ old)) in
-    let e : toZ w64 (ofZ w64 (toZ w64 (ofZ w64 (c .from .result)) -ℤ toZ w64 (ofZ w64 (c .from-2 .result)))) ≡ figureAt (old .marks) line -ℤ c .args .by = omega (arith, ints) in
+    let Put : ℤ → Type 0 = λ z. Cases (c .put .result) (λ _. (isFigure z ≡ true) × (new .values ≡ set (old .values) line z)) (λ f. (isFigure z ≡ false) × (faultCode f ≡ (6, 2, line)) × (new ≡ old)) in
+    let e : toZ w64 (ofZ w64 (toZ w64 (ofZ w64 (c .from .result)) -ℤ toZ w64 (ofZ w64 (c .from-2 .result)))) ≡ figureAt (old .values) line -ℤ c .args .by = omega (arith, ints) in
     subst Put e (c .put .ensures)

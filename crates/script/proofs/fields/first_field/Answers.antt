@@ -6,7 +6,7 @@ use native.Mathlib.Nat.{sub-zero}
 use native.Mathlib.Numerals.{add-one}
 use Rattle.std.proofs.shelf.Lists.{take-rest}
 use Rattle.script.proofs.Tabs.{field-at, rest-at, field-all, rest-none}
-use Rattle.script.proofs.fields.cut.Needs as need
+use Rattle.script.proofs.fields.first_field.Needs as need
 
 pub returns-then-b-eq9 : need.returns-then-b-eq9
 returns-then-b-eq9 c =
