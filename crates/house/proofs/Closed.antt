@@ -13,7 +13,7 @@ use Rattle.std.proofs.shelf.Tests.{not-false}
 use Rattle.std.specs.declared.option.Option.the-variants.{Some, None}
 use Rattle.std.specs.shelf.Lists.{All}
 use Rattle.std.specs.shelf.Sorted.{Shuffled}
-use Rattle.sections.specs.Rule.{Rule, blankSheet, Lawful}
+use Rattle.sections.specs.Rule.{Rule, blankSheet}
 use Rattle.house.specs.declared.colour.Colour.{Colour}
 use Rattle.house.specs.declared.phase.Phase.{Phase}
 use Rattle.house.specs.declared.phase.Phase.the-variants.{Closed}
@@ -102,10 +102,10 @@ module _ (r : Rule) (c : Cut) (p : Phase) (h : Hall) (out : ℕ) (so : Sound r c
                 let z : _≡_ {A = ℕ} 0 1 = cc in omega arith
 
     -- what the plain house holds where the first part ends, and where the second ends
-    first : (q : PlainHouse) × Plays r (blank (h .n)) (c .before) q × (plainView q ≡ k .split .x) × Fine (h .n) q × (Lawful r → (line : ℕ) → line < 32 → held line q ≡ held line (blank (h .n)) +ℤ sumOf (gainOf r line) (c .before))
+    first : (q : PlainHouse) × Plays r (blank (h .n)) (c .before) q × (plainView q ≡ k .split .x) × Fine (h .n) q × ((line : ℕ) → line < 32 → held line q ≡ held line (blank (h .n)) +ℤ sumOf (gainOf r line) (c .before))
     first =
         let one = plays-all (h .n) r (k .split .dpre) (blank (h .n)) (k .split .x) (fine-blank (h .n)) (k .split .before) in
-        (one .0, subst (λ es. Plays r (blank (h .n)) es (one .0)) (k .split .is-pre) (one .1), one .2, one .3, λ lw line short. subst (λ es. held line (one .0) ≡ held line (blank (h .n)) +ℤ sumOf (gainOf r line) es) (k .split .is-pre) (one .4 lw line short))
+        (one .0, subst (λ es. Plays r (blank (h .n)) es (one .0)) (k .split .is-pre) (one .1), one .2, one .3, λ line short. subst (λ es. held line (one .0) ≡ held line (blank (h .n)) +ℤ sumOf (gainOf r line) es) (k .split .is-pre) (one .4 line short))
 
     second : (q : PlainHouse) × Plays r (first .0) (c .after) q × (plainView q ≡ hallView h) × Fine (h .n) q
     second =
@@ -133,9 +133,9 @@ module _ (r : Rule) (c : Cut) (p : Phase) (h : Hall) (out : ℕ) (so : Sound r c
           underWay = subst (λ (q : PlainHouse). Shuffled (q .underWay) (slipsOf (h .tray))) (sym two) (shuffled-from-find (second .0 .underWay) (slipsOf (h .tray)) (second .3 .distinct) (so .common .naming .apart) (λ a b. ap (λ v. v .slips a b) (second .2)));
         }
 
-    pub scored : Lawful r → (line : ℕ) → line < 32 → score (h .recorded) (slipsOf (h .late)) line ≡ sumOf (gainOf r line) (c .before)
-    scored lw line short =
-        let kept = first .4 lw line short in
+    pub scored : (line : ℕ) → line < 32 → score (h .recorded) (slipsOf (h .late)) line ≡ sumOf (gainOf r line) (c .before)
+    scored line short =
+        let kept = first .4 line short in
         let a = ap (onSheets line) first-sheets in
         let b = sum-shuffled (onSlip line) (first .0 .underWay) (slipsOf (h .late)) first-slips in
         let z = sum-blank (h .n) line in

@@ -30,6 +30,7 @@ use Rattle.house.proofs.Closed.{owed, none-old}
 use Rattle.house.proofs.Histories.{accepted-holds, made-yes, made-holds, history-holds}
 use Rattle.house.proofs.Holding.{Holds}
 use Rattle.house.proofs.Phases.{is-counting}
+use Rattle.house.proofs.Plainly.{history-ordered}
 use Rattle.house.proofs.Progressed.{Kept, accepted-kept}
 use Rattle.house.proofs.Sound.{Sound, all-gathered}
 use Rattle.house.proofs.Sums.{getD-same}
@@ -50,7 +51,7 @@ module _ (m : Model) (ml : models.Lawful m) (rule : Rule) where
       go (Some code) e ih = ih c g x k kept
 
 made-kept : (n t l : ℕ) → Kept noProgress Ready (madeHall n t l)
-made-kept n t l = record { opened = refl; gathered = fun-ext (λ s. ap (λ u. u .gathered) (sym (getD-same n fresh s))); lates = λ s. let e : at (madeHall n t l) s .unreported ≡ 0 = ap (λ u. u .unreported) (getD-same n fresh s) in omega arith }
+made-kept n t l = record { opened = refl; gathered = fun-ext (λ s. ap (λ u. u .gathered) (sym (getD-same n fresh s))); lateTakes = λ s. let e : at (madeHall n t l) s .unreported ≡ 0 = ap (λ u. u .unreported) (getD-same n fresh s) in omega arith }
 
 history-kept : (m : Model) → models.Lawful m → (rule : Rule) (x : House (m .State)) (history : History m rule x) → Kept (progressOf (past m rule x history)) (x .phase) (x .hall)
 history-kept m ml rule x history =
@@ -73,7 +74,10 @@ done-none None x a e = refl
 done-none (Some code) x a e = absurd (true≢false (sym e))
 
 pub close-is-exact : (m : Model) → models.Lawful m → Close-is-exact m
-close-is-exact m ml rule x history = (λ q. there q, λ z. back z)
+close-is-exact m ml rule x history = (
+  λ q. subst (λ xs. Complete (x .hall .n) (cutOf (past m rule x history)) (progressOf (past m rule x history)) xs) (sym (history-ordered m ml rule x history)) (there q),
+  λ z. back (subst (λ xs. Complete (x .hall .n) (cutOf (past m rule x history)) (progressOf (past m rule x history)) xs) (history-ordered m ml rule x history) z),
+)
   where
     c : Cut
     c = cutOf (past m rule x history)
@@ -111,7 +115,7 @@ close-is-exact m ml rule x history = (λ q. there q, λ z. back z)
           opened = k .opened ∙ y .0;
           gathered = λ s lt. ap (λ f. f s) (k .gathered) ∙ all-gathered (h .n) (λ s. at h s .gathered) (c .turned) (co .tree) (y .1 .0) (suc s) s (omega arith) lt;
           arrived = all-plain (λ (z : Slip). c .new (z .sender) (z .number) ≡ true) (h .tray) (all-weaker _ _ (λ x e. not-false _ e) (h .tray) (none-old rule c p h out so co (y .1 .0) zo));
-          reported = λ s lt. let a = k .lates s in let b = sumN-zero (λ s. at h s .unreported) (h .n) u s lt in omega arith;
+          reported = λ s lt. let a = k .lateTakes s in let b = sumN-zero (λ s. at h s .unreported) (h .n) u s lt in omega arith;
         }
 
     back : Complete (h .n) c g (slipsOf (h .tray)) → isDone (step m rule x close) ≡ true
@@ -122,6 +126,6 @@ close-is-exact m ml rule x history = (λ q. there q, λ z. back z)
         let root : at h 0 .gathered ≡ true = ap (λ f. f 0) (sym (k .gathered)) ∙ z .gathered 0 (so .shape .some′) in
         let o = owed rule c p h out so co root in
         let olds : count (λ a b. not (c .new a b)) (h .tray) ≡ 0 = count-none (λ a b. not (c .new a b)) (h .tray) (all-weaker _ _ (λ x e. ap not e) (h .tray) (plain-all (λ (y : Slip). c .new (y .sender) (y .number) ≡ true) (h .tray) (z .arrived))) in
-        let us : sumN (λ s. at h s .unreported) (h .n) ≡ 0 = sumN-none (λ s. at h s .unreported) (h .n) (λ s lt. let a = k .lates s in let b = z .reported s lt in omega arith) in
+        let us : sumN (λ s. at h s .unreported) (h .n) ≡ 0 = sumN-none (λ s. at h s .unreported) (h .n) (λ s lt. let a = k .lateTakes s in let b = z .reported s lt in omega arith) in
         let left : out ≡ 0 = omega arith in
         ap (λ q. isDone (outcome q (after m rule x close) (reply m x close))) (house-decides m rule c x holds close ∙ no-first (closeQuestions p h out) (pc, (root, (eq-eqb out 0 left, tt))))

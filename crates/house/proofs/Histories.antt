@@ -8,7 +8,7 @@ use lib.Dec.{leb}
 use Rattle.std.proofs.shelf.Tests.{true≢false, eqb-true, leb-true, and-parts}
 use Rattle.std.specs.declared.option.Option.{Option}
 use Rattle.std.specs.declared.option.Option.the-variants.{Some, None}
-use Rattle.sections.specs.Rule.{Rule, Lawful}
+use Rattle.sections.specs.Rule.{Rule}
 use Rattle.methods.specs.Model.{Model}
 use Rattle.methods.specs.Questions.{firstNo}
 use Rattle.house.specs.declared.phase.Phase.the-variants.{Closed}
@@ -99,13 +99,13 @@ module _ (m : Model) (ml : models.Lawful m) (rule : Rule) (x y : House (m .State
       subst (λ (z : House (m .State)). Consistent rule (c .before) (c .after) (z .hall)) (closed .1)
       (consistent rule c (x .phase) (x .hall) (m .outstanding (x .method)) (holds .sound) during (yes .1 .0) (eqb-true (m .outstanding (x .method)) 0 (yes .1 .1 .0)))
 
-  pub close-scores : Lawful rule → (line : ℕ) → line < 32 → score (y .hall .recorded) (slipsOf (y .hall .late)) line ≡ sumOf (gainOf rule line) (cutOf (past m rule x history) .before)
-  close-scores lw line short =
+  pub close-scores : (line : ℕ) → line < 32 → score (y .hall .recorded) (slipsOf (y .hall .late)) line ≡ sumOf (gainOf rule line) (cutOf (past m rule x history) .before)
+  close-scores line short =
       subst (λ (z : House (m .State)). score (z .hall .recorded) (slipsOf (z .hall .late)) line ≡ sumOf (gainOf rule line) (c .before)) (closed .1)
-      (scored rule c (x .phase) (x .hall) (m .outstanding (x .method)) (holds .sound) during (yes .1 .0) (eqb-true (m .outstanding (x .method)) 0 (yes .1 .1 .0)) lw line short)
+      (scored rule c (x .phase) (x .hall) (m .outstanding (x .method)) (holds .sound) during (yes .1 .0) (eqb-true (m .outstanding (x .method)) 0 (yes .1 .1 .0)) line short)
 
 pub counts-are-consistent : (m : Model) → models.Lawful m → Counts-are-consistent m
 counts-are-consistent m ml rule x y answer granted history = close-consistent m ml rule x y answer history granted
 
 pub scores-are-gains : (m : Model) → models.Lawful m → Scores-are-gains m
-scores-are-gains m ml rule lw x y answer granted history line short = close-scores m ml rule x y answer history granted lw line short
+scores-are-gains m ml rule x y answer granted history line short = close-scores m ml rule x y answer history granted line short

@@ -29,8 +29,11 @@ pub mod Accepted
 pub mod Rooms
 pub mod Histories
 pub mod Refusals
+pub mod Plainly
 pub mod Progressed
 pub mod Exact
 pub mod Agreeing
-pub mod Lasting
+pub mod Staying
+pub mod Sending
+pub mod Few
 pub mod Working

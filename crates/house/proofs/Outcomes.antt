@@ -34,6 +34,10 @@ pub outcome-done : {Q : Type 0} (o : Option (ℕ × ℕ × ℕ)) (x y : House Q)
 outcome-done None x y a b e = (refl, done-same x y a b e .0)
 outcome-done (Some code) x y a b e = absurd (never-done code y b e)
 
+pub outcome-answer : {Q : Type 0} (o : Option (ℕ × ℕ × ℕ)) (x y : House Q) (a b : Answer) → outcome o x a ≡ done y b → a ≡ b
+outcome-answer None x y a b e = done-same x y a b e .1
+outcome-answer (Some code) x y a b e = absurd (never-done code y b e)
+
 pub outcome-refused : {Q : Type 0} (o : Option (ℕ × ℕ × ℕ)) (x : House Q) (a : Answer) (code : ℕ × ℕ × ℕ) → outcome o x a ≡ refused code → o ≡ Some code
 outcome-refused None x a code e = absurd (never-done code x a (sym e))
 outcome-refused (Some k) x a code e = ap Some (ap (codeOr k) e)

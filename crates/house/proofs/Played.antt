@@ -13,7 +13,7 @@ use Rattle.std.proofs.shelf.Tests.{eqb-true, eqb-false, lt-ltb}
 use Rattle.std.proofs.shelf.Ways.{tells}
 use Rattle.std.specs.declared.option.Option.{Option}
 use Rattle.std.specs.declared.option.Option.the-variants.{Some, None}
-use Rattle.sections.specs.Rule.{Rule, figureAt, entered, debited, credited, Lawful}
+use Rattle.sections.specs.Rule.{Rule, figureAt, entered, debited, credited}
 use Rattle.house.specs.declared.slip.Slip.{Slip}
 use Rattle.house.specs.CountText.{sumOf, onSheets, onSlip, onSlips}
 use Rattle.house.specs.Cut.{put, put2}
@@ -21,7 +21,7 @@ use Rattle.house.specs.Names.{same, find, without}
 use Rattle.std.specs.Options.{isSome}
 use Rattle.house.specs.PlainHouse.{PlainHouse, Event, plainStep, orStays, plainRun, RefusesNone}
 use Rattle.house.specs.Statements.{gainOf}
-use Rattle.house.proofs.Sheets.{length-gained, figure-entered, figure-debited, figure-credited, debit-short, credit-short}
+use Rattle.house.proofs.Sheets.{length-gained, figure-entered, figure-debited, figure-credited}
 use Rattle.house.proofs.Slips.{same-refl, same-true, find-append, Distinct, find-without, distinct-without, distinct-push}
 use Rattle.house.proofs.Sums.{sum-push, sum-set, sum-without}
 use Rattle.house.proofs.Views.{View, FullEvent, eventOf, changed, Acts, Acted, Numbered, numbered-acts, enters′, posts′, takes′}
@@ -103,7 +103,7 @@ wide-put n r d sheets s l sn w t lt = ap (λ f. length (f t)) (getD-put sheets s
     go true = length-changed r d (getD sheets s []) ∙ w s sn
     go false = w t lt
 
-pub plays-one : (n : ℕ) (r : Rule) (p : PlainHouse) (d : FullEvent) (w : View) → Fine n p → Acts n r (plainView p) d w → (q : PlainHouse) × (plainStep r p (eventOf d) ≡ Some q) × (plainView q ≡ w) × Fine n q × (Lawful r → (line : ℕ) → line < 32 → held line q ≡ held line p +ℤ gainOf r line (eventOf d))
+pub plays-one : (n : ℕ) (r : Rule) (p : PlainHouse) (d : FullEvent) (w : View) → Fine n p → Acts n r (plainView p) d w → (q : PlainHouse) × (plainStep r p (eventOf d) ≡ Some q) × (plainView q ≡ w) × Fine n q × ((line : ℕ) → line < 32 → held line q ≡ held line p +ℤ gainOf r line (eventOf d))
 plays-one n r p (enters′ s a b code) w f h =
     let lt : s < length (p .sheets) = rw (f .sheets) (h .within) in
     let new = entered (getD (p .sheets) s []) (r .gain a b code) in
@@ -113,7 +113,7 @@ plays-one n r p (enters′ s a b code) w f h =
       rw (lt-ltb s (length (p .sheets)) lt, h .grant),
       v,
       record { sheets = length-set (p .sheets) s new ∙ f .sheets; posted = f .posted; distinct = f .distinct; numbered = subst Numbered (sym v) (numbered-acts n r (plainView p) w (enters′ s a b code) (f .numbered) h); wide = wide-put n r (enters′ s a b code) (p .sheets) s lt (h .within) (f .wide) },
-      λ lw line short. let g = figure-entered (getD (p .sheets) s []) (r .gain a b code) line (rw (f .wide s (h .within)) short) in let m = sum-set (λ f. figureAt f line) (p .sheets) s new [] lt in omega (arith, ints),
+      λ line short. let g = figure-entered (getD (p .sheets) s []) (r .gain a b code) line (rw (f .wide s (h .within)) short) in let m = sum-set (λ f. figureAt f line) (p .sheets) s new [] lt in omega (arith, ints),
     )
 plays-one n r p (posts′ x) w f h =
     let lt : x .sender < length (p .sheets) = rw (f .sheets) (h .within) in
@@ -127,7 +127,7 @@ plays-one n r p (posts′ x) w f h =
       rw (lt-ltb (x .sender) (length (p .sheets)) lt, lt-ltb (x .receiver) (length (p .sheets)) lr, h .grant) (ap (λ k. Some (record { sheets = set (p .sheets) (x .sender) new; posted = set (p .posted) (x .sender) (getD (p .posted) (x .sender) 0 + 1); underWay = p .underWay ++ (record { sender = x .sender; number = k; receiver = x .receiver; line = x .line; amount = x .amount } ∷ []) })) (sym (h .fit .0))),
       v,
       record { sheets = length-set (p .sheets) (x .sender) new ∙ f .sheets; posted = length-set (p .posted) (x .sender) _ ∙ f .posted; distinct = distinct-push (p .underWay) x (f .distinct) nn; numbered = subst Numbered (sym v) (numbered-acts n r (plainView p) w (posts′ x) (f .numbered) h); wide = wide-put n r (posts′ x) (p .sheets) (x .sender) lt (h .within) (f .wide) },
-      λ lw line short. let g = figure-debited (getD (p .sheets) (x .sender) []) (x .line) (x .amount) line (rw (f .wide (x .sender) (h .within)) (debit-short r lw _ (x .line) (x .amount) (h .grant))) in let m = sum-set (λ f. figureAt f line) (p .sheets) (x .sender) new [] lt in let k = sum-push (onSlip line) (p .underWay) x in omega (arith, ints),
+      λ line short. let g = figure-debited (getD (p .sheets) (x .sender) []) (x .line) (x .amount) line (rw (f .wide (x .sender) (h .within)) short) in let m = sum-set (λ f. figureAt f line) (p .sheets) (x .sender) new [] lt in let k = sum-push (onSlip line) (p .underWay) x in omega (arith, ints),
     )
 plays-one n r p (takes′ x) w f h =
     let lt : x .receiver < length (p .sheets) = rw (f .sheets) (h .within) in
@@ -138,12 +138,12 @@ plays-one n r p (takes′ x) w f h =
       rw (h .fit, h .grant),
       v,
       record { sheets = length-set (p .sheets) (x .receiver) new ∙ f .sheets; posted = f .posted; distinct = distinct-without (x .sender) (x .number) (p .underWay) (f .distinct); numbered = subst Numbered (sym v) (numbered-acts n r (plainView p) w (takes′ x) (f .numbered) h); wide = wide-put n r (takes′ x) (p .sheets) (x .receiver) lt (h .within) (f .wide) },
-      λ lw line short. let g = figure-credited (getD (p .sheets) (x .receiver) []) (x .line) (x .amount) line (rw (f .wide (x .receiver) (h .within)) (credit-short r lw _ (x .line) (x .amount) (h .grant))) in let m = sum-set (λ f. figureAt f line) (p .sheets) (x .receiver) new [] lt in let k = sum-without (onSlip line) (x .sender) (x .number) x (p .underWay) (h .fit) in omega (arith, ints),
+      λ line short. let g = figure-credited (getD (p .sheets) (x .receiver) []) (x .line) (x .amount) line (rw (f .wide (x .receiver) (h .within)) short) in let m = sum-set (λ f. figureAt f line) (p .sheets) (x .receiver) new [] lt in let k = sum-without (onSlip line) (x .sender) (x .number) x (p .underWay) (h .fit) in omega (arith, ints),
     )
 
-pub plays-all : (n : ℕ) (r : Rule) (ds : List FullEvent) (p : PlainHouse) (w : View) → Fine n p → Acted n r (plainView p) ds w → (q : PlainHouse) × Plays r p (map eventOf ds) q × (plainView q ≡ w) × Fine n q × (Lawful r → (line : ℕ) → line < 32 → held line q ≡ held line p +ℤ sumOf (gainOf r line) (map eventOf ds))
-plays-all n r [] p w f h = (p, refl, h, f, λ lw line short. omega (arith, ints))
+pub plays-all : (n : ℕ) (r : Rule) (ds : List FullEvent) (p : PlainHouse) (w : View) → Fine n p → Acted n r (plainView p) ds w → (q : PlainHouse) × Plays r p (map eventOf ds) q × (plainView q ≡ w) × Fine n q × ((line : ℕ) → line < 32 → held line q ≡ held line p +ℤ sumOf (gainOf r line) (map eventOf ds))
+plays-all n r [] p w f h = (p, refl, h, f, λ line short. omega (arith, ints))
 plays-all n r (d ∷ ds) p w f h =
     let one = plays-one n r p d (h .0) f (h .1) in
     let all = plays-all n r ds (one .0) w (one .3) (subst (λ v. Acted n r v ds w) (sym (one .2)) (h .2)) in
-    (all .0, (one .0, one .1, all .1), all .2, all .3, λ lw line short. let a = all .4 lw line short in let o = one .4 lw line short in omega (arith, ints))
+    (all .0, (one .0, one .1, all .1), all .2, all .3, λ line short. let a = all .4 line short in let o = one .4 line short in omega (arith, ints))

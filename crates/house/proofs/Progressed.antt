@@ -43,13 +43,13 @@ use Rattle.house.proofs.Turns.{during-of}
 pub record Kept (g : Progress) (p : Phase) (h : Hall) : Type 0 where
   pub opened : g .open? ≡ isCounting p
   pub gathered : g .gathered ≡ (λ s. at h s .gathered)
-  pub lates : (s : ℕ) → g .lates s ≡ g .reports s + at h s .unreported
+  pub lateTakes : (s : ℕ) → g .lateTakes s ≡ g .reports s + at h s .unreported
 
 -- a change of one station that keeps the two marks
-pub kept-set : (g : Progress) (p : Phase) (h : Hall) (s : ℕ) (st : Station) → s < length (h .stations) → st .gathered ≡ at h s .gathered → st .unreported ≡ at h s .unreported → Kept g p h → (_≡_ {A = ℕ → Bool} (g .gathered) (λ t. (getD (set (h .stations) s st) t fresh) .gathered)) × ((t : ℕ) → g .lates t ≡ g .reports t + (getD (set (h .stations) s st) t fresh) .unreported)
+pub kept-set : (g : Progress) (p : Phase) (h : Hall) (s : ℕ) (st : Station) → s < length (h .stations) → st .gathered ≡ at h s .gathered → st .unreported ≡ at h s .unreported → Kept g p h → (_≡_ {A = ℕ → Bool} (g .gathered) (λ t. (getD (set (h .stations) s st) t fresh) .gathered)) × ((t : ℕ) → g .lateTakes t ≡ g .reports t + (getD (set (h .stations) s st) t fresh) .unreported)
 kept-set g p h s st l e u k = (
   k .gathered ∙ sym (field-kept (λ t. t .gathered) (h .stations) s st l e),
-  λ t. k .lates t ∙ ap (λ f. g .reports t + f t) (sym (field-kept (λ t. t .unreported) (h .stations) s st l u)),
+  λ t. k .lateTakes t ∙ ap (λ f. g .reports t + f t) (sym (field-kept (λ t. t .unreported) (h .stations) s st l u)),
 )
 
 module _ (r : Rule) (c : Cut) (g : Progress) (p : Phase) (h : Hall) (out : ℕ) (so : Sound r c p h out) (k : Kept g p h) where
@@ -57,17 +57,17 @@ module _ (r : Rule) (c : Cut) (g : Progress) (p : Phase) (h : Hall) (out : ℕ) 
   below s lt = rw (so .shape .stations) lt
 
   turns-kept : (s : ℕ) → s < h .n → Kept g p (turns h s)
-  turns-kept s lt = let m = kept-set g p h s (turnedStation (at h s)) (below s lt) refl refl k in record { opened = k .opened; gathered = m .0; lates = m .1 }
+  turns-kept s lt = let m = kept-set g p h s (turnedStation (at h s)) (below s lt) refl refl k in record { opened = k .opened; gathered = m .0; lateTakes = m .1 }
 
   arrives-kept : (h₁ : Hall) (x : ColouredSlip) → x .slip .receiver < length (h₁ .stations) → Kept g p h₁ → Kept g p (arrives h₁ x)
-  arrives-kept h₁ x l k₁ = let m = kept-set g p h₁ (x .slip .receiver) (tookStation (at h₁ (x .slip .receiver))) l refl refl k₁ in record { opened = k₁ .opened; gathered = m .0; lates = m .1 }
+  arrives-kept h₁ x l k₁ = let m = kept-set g p h₁ (x .slip .receiver) (tookStation (at h₁ (x .slip .receiver))) l refl refl k₁ in record { opened = k₁ .opened; gathered = m .0; lateTakes = m .1 }
 
-  late-kept : (x : ColouredSlip) → x .slip .receiver < h .n → Kept (record { open? = g .open?; gathered = g .gathered; lates = oneMore (g .lates) (x .slip .receiver); reports = g .reports }) p (arrivesLate h x)
+  late-kept : (x : ColouredSlip) → x .slip .receiver < h .n → Kept (record { open? = g .open?; gathered = g .gathered; lateTakes = oneMore (g .lateTakes) (x .slip .receiver); reports = g .reports }) p (arrivesLate h x)
   late-kept x lt =
       record {
         opened = k .opened;
         gathered = k .gathered ∙ sym (field-kept (λ t. t .gathered) (h .stations) (x .slip .receiver) (lateStation (at h (x .slip .receiver))) (below _ lt) refl);
-        lates = λ t. let e = ap (λ f. f t) (field-put (λ t. t .unreported) (h .stations) (x .slip .receiver) (lateStation (at h (x .slip .receiver))) (below _ lt)) in let a = k .lates t in let b = k .lates (x .slip .receiver) in rw e (grind (arith, tells));
+        lateTakes = λ t. let e = ap (λ f. f t) (field-put (λ t. t .unreported) (h .stations) (x .slip .receiver) (lateStation (at h (x .slip .receiver))) (below _ lt)) in let a = k .lateTakes t in let b = k .lateTakes (x .slip .receiver) in rw e (grind (arith, tells));
       }
 
   -- the house's own test for a late slip is the progress's
@@ -97,10 +97,10 @@ module _ (r : Rule) (c : Cut) (g : Progress) (p : Phase) (h : Hall) (out : ℕ) 
       lt = so .common .naming .meant (x .slip .sender) (x .slip .number) (x .slip) has
 
       with′ : Bool → Progress
-      with′ b = record { open? = g .open?; gathered = g .gathered; lates = cond b (oneMore (g .lates) (x .slip .receiver)) (g .lates); reports = g .reports }
+      with′ b = record { open? = g .open?; gathered = g .gathered; lateTakes = cond b (oneMore (g .lateTakes) (x .slip .receiver)) (g .lateTakes); reports = g .reports }
 
       book : (b : Bool) → isLate p h x ≡ b → progressAfter c g (take (x .slip .sender) (x .slip .number)) ≡ with′ b
-      book b e = ap (λ p. record { open? = g .open?; gathered = g .gathered; lates = cond (lateTake c g (x .slip .sender) (x .slip .number)) (oneMore (g .lates) p) (g .lates); reports = g .reports }) q ∙ ap with′ (sym (late-same x here yes′) ∙ e)
+      book b e = ap (λ p. record { open? = g .open?; gathered = g .gathered; lateTakes = cond (lateTake c g (x .slip .sender) (x .slip .number)) (oneMore (g .lateTakes) p) (g .lateTakes); reports = g .reports }) q ∙ ap with′ (sym (late-same x here yes′) ∙ e)
 
       go : (b : Bool) → isLate p h x ≡ b → (t : Bool) → turnsReceiver p h x ≡ t → Kept (progressAfter c g (take (x .slip .sender) (x .slip .number))) p (arrived p h x)
       go true e t et = subst (λ y. Kept y p (arrived p h x)) (sym (book true e)) (subst (λ y. Kept (with′ true) p y) (let w : arrived p h x ≡ arrivesLate h x = rw e in sym w) (late-kept x lt))
@@ -120,7 +120,7 @@ module _ (r : Rule) (c : Cut) (g : Progress) (p : Phase) (h : Hall) (out : ℕ) 
       record {
         opened = k .opened;
         gathered = ap (λ f. put f s true) (k .gathered) ∙ sym (field-put (λ t. t .gathered) (h .stations) s (gatheredStation (at h s)) ls);
-        lates = λ t. k .lates t ∙ ap (λ f. g .reports t + f t) (sym (field-kept (λ t. t .unreported) (h .stations) s (gatheredStation (at h s)) ls refl));
+        lateTakes = λ t. k .lateTakes t ∙ ap (λ f. g .reports t + f t) (sym (field-kept (λ t. t .unreported) (h .stations) s (gatheredStation (at h s)) ls refl));
       }
 
   report-kept : (s messages : ℕ) → ltb s (h .n) ≡ true → 0 < at h s .unreported → Kept (progressAfter c g (report s)) p (withMessages (reportedHall h s) messages)
@@ -129,12 +129,12 @@ module _ (r : Rule) (c : Cut) (g : Progress) (p : Phase) (h : Hall) (out : ℕ) 
       record {
         opened = k .opened;
         gathered = k .gathered ∙ sym (field-kept (λ t. t .gathered) (h .stations) s (reportedStation (at h s)) ls refl);
-        lates = λ t. let e = ap (λ f. f t) (field-put (λ t. t .unreported) (h .stations) s (reportedStation (at h s)) ls) in let a = k .lates t in rw e (one t (eqb t s) refl some′);
+        lateTakes = λ t. let e = ap (λ f. f t) (field-put (λ t. t .unreported) (h .stations) s (reportedStation (at h s)) ls) in let a = k .lateTakes t in rw e (one t (eqb t s) refl some′);
       }
     where
-      one : (t : ℕ) (b : Bool) → eqb t s ≡ b → 0 < at h s .unreported → g .lates t ≡ oneMore (g .reports) s t + put (λ t. at h t .unreported) s (at h s .unreported - 1) t
-      one t true w l = let u = eqb-true t s w in rw (w, u) (let a = k .lates s in omega arith)
-      one t false w l = rw w (k .lates t)
+      one : (t : ℕ) (b : Bool) → eqb t s ≡ b → 0 < at h s .unreported → g .lateTakes t ≡ oneMore (g .reports) s t + put (λ t. at h t .unreported) s (at h s .unreported - 1) t
+      one t true w l = let u = eqb-true t s w in rw (w, u) (let a = k .lateTakes s in omega arith)
+      one t false w l = rw w (k .lateTakes t)
 
   open-kept : (s : ℕ) → ltb s (h .n) ≡ true → Kept (progressAfter c g (open′ s)) Counting (openedHall h s)
   open-kept s lt =
@@ -143,7 +143,7 @@ module _ (r : Rule) (c : Cut) (g : Progress) (p : Phase) (h : Hall) (out : ℕ) 
       record {
         opened = refl;
         gathered = sym (field-kept (λ t. t .gathered) (map clearedStation (h .stations)) s st ls refl ∙ fun-ext (λ t. ap (λ u. u .gathered) (mapped (h .stations) t)));
-        lates = λ t. let e : getD (set (map clearedStation (h .stations)) s st) t fresh .unreported ≡ 0 = ap (λ f. f t) (field-kept (λ t. t .unreported) (map clearedStation (h .stations)) s st ls refl) ∙ ap (λ u. u .unreported) (mapped (h .stations) t) in omega arith;
+        lateTakes = λ t. let e : getD (set (map clearedStation (h .stations)) s st) t fresh .unreported ≡ 0 = ap (λ f. f t) (field-kept (λ t. t .unreported) (map clearedStation (h .stations)) s st ls refl) ∙ ap (λ u. u .unreported) (mapped (h .stations) t) in omega arith;
       }
 
 module _ (m : Model) (rule : Rule) (c : Cut) (g : Progress) (x : House (m .State)) (so : Sound rule c (x .phase) (x .hall) (m .outstanding (x .method))) (k : Kept g (x .phase) (x .hall)) where
@@ -164,17 +164,17 @@ module _ (m : Model) (rule : Rule) (c : Cut) (g : Progress) (x : House (m .State
       go false = gather-kept rule c g p h out so k s (x .hall .messages) lt
 
   pub accepted-kept : (call : Call) → AllYes (houseQuestions rule (x .phase) (x .hall) (m .outstanding (x .method)) call) → Kept (progressAfter c g call) (after m rule x call .phase) (after m rule x call .hall)
-  accepted-kept (enter s a b r) y = record { opened = k .opened; gathered = k .gathered; lates = k .lates }
+  accepted-kept (enter s a b r) y = record { opened = k .opened; gathered = k .gathered; lateTakes = k .lateTakes }
   accepted-kept (post s to line amount) y =
       let q = and-parts _ _ (y .0) in
       let e = kept-set g p h s (postedStation (at h s)) (rw (so .shape .stations) (ltb-true s (h .n) (q .0))) refl refl k in
-      record { opened = k .opened; gathered = e .0; lates = e .1 }
+      record { opened = k .opened; gathered = e .0; lateTakes = e .1 }
   accepted-kept (take a b) y = taken-kept rule c g p h out so k a b (underWay h a b) refl y
   accepted-kept (open′ s) y = open-kept rule c g p h out so k s (y .0)
   accepted-kept (turn s) y = turns-kept rule c g p h out so k s (ltb-true s (h .n) (y .0))
   accepted-kept (gather s) y = gathered-kept s (y .0)
   accepted-kept (report s) y = report-kept rule c g p h out so k s _ (y .0) (ltb-true 0 (at h s .unreported) (y .1 .1 .1 .0))
-  accepted-kept close y = record { opened = refl; gathered = k .gathered; lates = k .lates }
+  accepted-kept close y = record { opened = refl; gathered = k .gathered; lateTakes = k .lateTakes }
   accepted-kept (file told text) y =
       let q = and-parts _ _ (y .0) in
-      record { opened = k .opened ∙ ap isCounting (is-closed p (q .0)); gathered = k .gathered; lates = k .lates }
+      record { opened = k .opened ∙ ap isCounting (is-closed p (q .0)); gathered = k .gathered; lateTakes = k .lateTakes }

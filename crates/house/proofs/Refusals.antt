@@ -14,16 +14,16 @@ use Rattle.methods.specs.Questions.{ask, firstNo}
 use Rattle.house.specs.declared.phase.Phase.{Phase}
 use Rattle.house.specs.declared.slip.ColouredSlip.{ColouredSlip}
 use Rattle.house.specs.Asking.{small}
-use Rattle.house.specs.Calls.{Call, houseQuestions, questions, after, reply, enter, post, take, open′, turn, gather, report, close, file}
+use Rattle.house.specs.Calls.{Call, houseQuestions, methodQuestions, questions, after, reply, enter, post, take, open′, turn, gather, report, close, file}
 use Rattle.house.specs.Cut.{cutOf}
 use Rattle.house.specs.Runs.{past}
 use Rattle.house.specs.State.{Hall, sheetAt}
 use Rattle.house.specs.Statements.{Method-refuses-nothing}
 use Rattle.house.specs.Taking.{isLate, runningAfter, takeQuestions, underWay}
-use Rattle.house.proofs.Asked.{Low, low-first}
+use Rattle.house.proofs.Asked.{all-yes, no-first, Low, low-first}
 use Rattle.house.proofs.Histories.{history-holds}
 use Rattle.house.proofs.Outcomes.{outcome-refused}
-use Rattle.house.proofs.Willing.{house-decides}
+use Rattle.house.proofs.Willing.{method-yes, house-decides}
 use Rattle.methods.specs.Model as models
 
 low-section : (v : Verdict) → verdictCode v .0 < 23
@@ -50,7 +50,10 @@ low-house rule p h out close = (omega arith, (omega arith, (omega arith, tt)))
 low-house rule p h out (file told text) = (omega arith, (omega arith, tt))
 
 pub method-refuses-nothing : (m : Model) → models.Lawful m → Method-refuses-nothing m
-method-refuses-nothing m ml rule x history call code e =
-    let k = history-holds m ml rule x history in
-    let o = outcome-refused (firstNo (questions m rule x call)) (after m rule x call) (reply m x call) code e in
-    low-first (houseQuestions rule (x .phase) (x .hall) (m .outstanding (x .method)) call) code (low-house rule (x .phase) (x .hall) (m .outstanding (x .method)) call) (sym (house-decides m rule (cutOf (past m rule x history)) x k call) ∙ o)
+method-refuses-nothing m ml rule x history call = (
+  λ e. no-first (methodQuestions m x call) (method-yes m rule (cutOf (past m rule x history)) x (history-holds m ml rule x history) call (all-yes (houseQuestions rule (x .phase) (x .hall) (m .outstanding (x .method)) call) e)),
+  λ code e.
+      let k = history-holds m ml rule x history in
+      let o = outcome-refused (firstNo (questions m rule x call)) (after m rule x call) (reply m x call) code e in
+      low-first (houseQuestions rule (x .phase) (x .hall) (m .outstanding (x .method)) call) code (low-house rule (x .phase) (x .hall) (m .outstanding (x .method)) call) (sym (house-decides m rule (cutOf (past m rule x history)) x k call) ∙ o),
+)

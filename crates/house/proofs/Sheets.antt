@@ -4,13 +4,13 @@ use mathlib.Core.Bool.{Bool, true, false, cond}
 use mathlib.Core.List.{List, [], _∷_}
 use mathlib.Core.Path.{_≡_, refl, ap, subst, _∙_, sym}
 use native.Mathlib.Omega.{arith}
-use lib.Dec.{eqb, ltb}
+use lib.Dec.{eqb}
 use lib.IntN.{ℤ, pos, _+ℤ_, _-ℤ_}
 use lib.ListN.{length, getD, set}
 use Rattle.std.proofs.shelf.Lists.{getD-set-same, getD-set-other}
 use Rattle.std.proofs.shelf.Signed.{ints}
-use Rattle.std.proofs.shelf.Tests.{true≢false, eqb-true, eqb-false, ltb-true}
-use Rattle.sections.specs.Rule.{Rule, admits, figureAt, gainedFrom, entered, debited, credited, Lawful}
+use Rattle.std.proofs.shelf.Tests.{eqb-true, eqb-false}
+use Rattle.sections.specs.Rule.{figureAt, gainedFrom, entered, debited, credited}
 
 pub length-gained : (k : ℕ) (gain : ℕ → ℤ) (f : List ℤ) → length (gainedFrom k gain f) ≡ length f
 length-gained k gain [] = refl
@@ -25,14 +25,14 @@ pub figure-entered : (f : List ℤ) (gain : ℕ → ℤ) (l : ℕ) → l < lengt
 figure-entered f gain l h = figure-gained 0 gain f l h ∙ ap (λ k. figureAt f l +ℤ gain k) (omega arith)
 
 -- one figure is set
-pub figure-set : (f : List ℤ) (line : ℕ) (v : ℤ) (l : ℕ) → line < length f → figureAt (set f line v) l ≡ cond (eqb line l) v (figureAt f l)
+pub figure-set : (f : List ℤ) (line : ℕ) (v : ℤ) (l : ℕ) → l < length f → figureAt (set f line v) l ≡ cond (eqb line l) v (figureAt f l)
 figure-set f line v l h = go (eqb line l) refl
   where
     go : (t : Bool) → eqb line l ≡ t → figureAt (set f line v) l ≡ cond (eqb line l) v (figureAt f l)
-    go true t = rw t (let e = eqb-true line l t in subst (λ k. getD (set f line v) k (pos 0) ≡ v) e (getD-set-same f line v (pos 0) h))
+    go true t = rw t (let e = eqb-true line l t in subst (λ k. getD (set f line v) k (pos 0) ≡ v) e (getD-set-same f line v (pos 0) (subst (λ k. k < length f) (sym e) h)))
     go false t = rw t (getD-set-other f line l v (pos 0) (λ e. eqb-false line l t (sym e)))
 
-pub figure-debited : (f : List ℤ) (line : ℕ) (amount : ℤ) (l : ℕ) → line < length f → figureAt (debited f line amount) l +ℤ cond (eqb line l) amount (pos 0) ≡ figureAt f l
+pub figure-debited : (f : List ℤ) (line : ℕ) (amount : ℤ) (l : ℕ) → l < length f → figureAt (debited f line amount) l +ℤ cond (eqb line l) amount (pos 0) ≡ figureAt f l
 figure-debited f line amount l h = go (eqb line l) refl (figure-set f line (figureAt f line -ℤ amount) l h)
   where
     go : (t : Bool) → eqb line l ≡ t → figureAt (debited f line amount) l ≡ cond (eqb line l) (figureAt f line -ℤ amount) (figureAt f l) → figureAt (debited f line amount) l +ℤ cond (eqb line l) amount (pos 0) ≡ figureAt f l
@@ -42,7 +42,7 @@ figure-debited f line amount l h = go (eqb line l) refl (figure-set f line (figu
         rw t (omega (arith, ints))
     go false t e = let e′ : figureAt (debited f line amount) l ≡ figureAt f l = rw t at e in rw t (omega (arith, ints))
 
-pub figure-credited : (f : List ℤ) (line : ℕ) (amount : ℤ) (l : ℕ) → line < length f → figureAt (credited f line amount) l ≡ figureAt f l +ℤ cond (eqb line l) amount (pos 0)
+pub figure-credited : (f : List ℤ) (line : ℕ) (amount : ℤ) (l : ℕ) → l < length f → figureAt (credited f line amount) l ≡ figureAt f l +ℤ cond (eqb line l) amount (pos 0)
 figure-credited f line amount l h = go (eqb line l) refl (figure-set f line (figureAt f line +ℤ amount) l h)
   where
     go : (t : Bool) → eqb line l ≡ t → figureAt (credited f line amount) l ≡ cond (eqb line l) (figureAt f line +ℤ amount) (figureAt f l) → figureAt (credited f line amount) l ≡ figureAt f l +ℤ cond (eqb line l) amount (pos 0)
@@ -51,18 +51,3 @@ figure-credited f line amount l h = go (eqb line l) refl (figure-set f line (fig
         let q : figureAt f line ≡ figureAt f l = ap (figureAt f) (eqb-true line l t) in
         rw t (omega (arith, ints))
     go false t e = let e′ : figureAt (credited f line amount) l ≡ figureAt f l = rw t at e in rw t (omega (arith, ints))
-
--- a lawful rule admits no line above 31
-pub debit-short : (rule : Rule) → Lawful rule → (f : List ℤ) (line : ℕ) (amount : ℤ) → admits (rule .debit f line amount) ≡ true → line < 32
-debit-short rule lw f line amount ok = go (ltb line 32) refl
-  where
-    go : (t : Bool) → ltb line 32 ≡ t → line < 32
-    go true t = ltb-true line 32 t
-    go false t = absurd (true≢false (sym ok ∙ ap admits (lw .debit-line f line amount t)))
-
-pub credit-short : (rule : Rule) → Lawful rule → (f : List ℤ) (line : ℕ) (amount : ℤ) → admits (rule .credit f line amount) ≡ true → line < 32
-credit-short rule lw f line amount ok = go (ltb line 32) refl
-  where
-    go : (t : Bool) → ltb line 32 ≡ t → line < 32
-    go true t = ltb-true line 32 t
-    go false t = absurd (true≢false (sym ok ∙ ap admits (lw .credit-line f line amount t)))

@@ -1,4 +1,4 @@
--- The counting method is never asked in vain: where the house's own questions are answered yes, its are too.
+-- The counting method refuses nothing: where the house's own questions are all answered yes, so are the method's.
 use Prim.Native.Nat.{ℕ, suc, _<_, _+_, _≤_}
 use mathlib.Core.Bool.{Bool, true, false, cond, not, _&&_}
 use mathlib.Core.List.{List, [], _∷_}

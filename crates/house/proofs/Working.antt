@@ -11,4 +11,4 @@ use Rattle.house.specs.Worked.{Worked-history}
 
 pub worked-history : Worked-history
 unfolding digits dealt climb turned arrival sums sheetLines recordLines slipLines scoreLines
-worked-history = record { made = refl; told = refl; recorded = refl; late = refl; before = refl; after = refl }
+worked-history = record { made = refl; told = refl; recorded = refl; late = refl; before = refl; after = refl; phase = refl; told-second = refl; recorded-second = refl; late-second = refl; before-second = refl; after-second = refl; phase-second = refl }

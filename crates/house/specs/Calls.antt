@@ -20,6 +20,7 @@ use Rattle.house.specs.Reporting.{reportQuestions, heardQuestions, afterReport
 use Rattle.house.specs.Closing.{closeQuestions}
 use Rattle.house.specs.Filing.{fileQuestions, textOf, writtenOver}
 
+-- open′ has a prime because `open` is a word of the language
 pub data Call : Type 0 where
   enter : (station a b : ℕ) (r : ℤ) → Call
   post : (station to line : ℕ) (amount : ℤ) → Call

@@ -14,6 +14,7 @@ put f s v t = cond (eqb t s) v (f t)
 abbrev pub put2 : {X : Type 0} → (ℕ → ℕ → X) → ℕ → ℕ → X → ℕ → ℕ → X
 put2 f a b v x y = cond (same a b x y) v (f x y)
 
+-- the present count is the one opened last: from its close until the next open the fields still describe it
 pub record Cut : Type 0 where
   pub all : List Event  -- every accepted enter, post and take
   pub before : List Event  -- those before their stations' turns for the present count, in the old order

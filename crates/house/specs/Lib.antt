@@ -20,4 +20,5 @@ pub mod PlainHouse
 pub mod Cut
 pub mod Progress
 pub mod Statements
+pub mod Messages
 pub mod Worked

@@ -8,7 +8,6 @@ use lib.ListN.{length}
 use Rattle.sections.specs.Rule.{Rule, debited}
 use Rattle.methods.specs.Questions.{Question, ask}
 use Rattle.house.specs.declared.slip.Slip.{Slip}
-use Rattle.house.specs.declared.slip.ColouredSlip.{ColouredSlip}
 use Rattle.house.specs.declared.station.Station.{Station}
 use Rattle.house.specs.State.{Hall, at, sheetAt}
 use Rattle.house.specs.Changes.{withSheet, withStation, withTray}

@@ -1,23 +1,24 @@
--- What a count is worth, for every list of calls from a made house.
+-- What is proved of every count, for every list of calls from a made house.
 use Prim.Native.Nat.{ℕ, _<_}
 use mathlib.Core.Path.{_≡_}
-use mathlib.Core.Bool.{Bool, true, false}
-use mathlib.Core.List.{List, [], _∷_, _++_, map}
+use mathlib.Core.Bool.{true, false}
+use mathlib.Core.List.{List, _++_, map}
 use mathlib.Core.Logic.{_↔_}
 use lib.IntN.{ℤ, pos}
 use Rattle.std.specs.shelf.Lists.{All}
 use Rattle.std.specs.shelf.Sorted.{Shuffled}
-use Rattle.sections.specs.Rule.{Rule, Lawful}
+use Rattle.sections.specs.Rule.{Rule}
+use Rattle.std.specs.declared.option.Option.the-variants.{None}
+use Rattle.methods.specs.Questions.{firstNo}
 use Rattle.methods.specs.Model.{Model}
-use Rattle.house.specs.declared.phase.Phase.the-variants.{Closed}
 use Rattle.house.specs.Names.{slipsOf}
-use Rattle.house.specs.State.{Hall, House}
-use Rattle.house.specs.Calls.{Call, enter, post, take, open′, turn, gather, report, close, file, Answer, nothing, number, sum, sent, receipt, filed}
+use Rattle.house.specs.State.{Hall, House, isCounting}
+use Rattle.house.specs.Calls.{Call, enter, post, take, open′, turn, gather, report, close, file, Answer, nothing, number, sum, sent, receipt, filed, houseQuestions, methodQuestions}
 use Rattle.house.specs.Runs.{done, refused, make, step, run, Told, toldNo, toldOk, allTold, accepted, isDone, History, past}
 use Rattle.house.specs.CountText.{sumOf, score}
 use Rattle.house.specs.Filing.{textOf}
-use Rattle.house.specs.PlainHouse.{PlainHouse, Event, enters, posts, takes, blank, plainRun, RefusesNone}
-use Rattle.house.specs.Cut.{Cut, cutOf}
+use Rattle.house.specs.PlainHouse.{Event, enters, posts, takes, blank, plainRun, RefusesNone}
+use Rattle.house.specs.Cut.{cutOf}
 use Rattle.house.specs.Progress.{Complete, progressOf}
 
 -- Consistent: the events before the cut, then the rest, are a run of the plain house that refuses none. Where the first
@@ -29,6 +30,18 @@ pub record Consistent (rule : Rule) (before after : List Event) (h : Hall) : Typ
   pub late : Shuffled (plainRun rule (blank (h .n)) before .underWay) (slipsOf (h .late))
   pub sheets : plainRun rule (blank (h .n)) (before ++ after) .sheets ≡ h .sheets
   pub underWay : Shuffled (plainRun rule (blank (h .n)) (before ++ after) .underWay) (slipsOf (h .tray))
+
+-- The house is its plain run: from blank sheets, the run of every accepted enter, post and take refuses none, and it holds
+-- the sheets of the house and, in their order, the slips of its tray; colours are set aside
+pub record PlainRunIs (rule : Rule) (all : List Event) (h : Hall) : Type 0 where
+  pub refuses-none : RefusesNone rule (blank (h .n)) all
+  pub sheets : plainRun rule (blank (h .n)) all .sheets ≡ h .sheets
+  pub underWay : plainRun rule (blank (h .n)) all .underWay ≡ slipsOf (h .tray)
+
+-- after every history, in every phase
+abbrev pub House-is-its-plain-run : Model → Type 0
+House-is-its-plain-run m =
+    (rule : Rule) (x : House (m .State)) (history : History m rule x) → PlainRunIs rule (cutOf (past m rule x history) .all) (x .hall)
 
 -- for every past of a house x that close made y of
 abbrev pub Closes-consistently : (m : Model) → Rule → (x y : House (m .State)) → Type 0
@@ -56,24 +69,27 @@ Closes-with-scores m rule x y =
 -- at every granted close
 abbrev pub Scores-are-gains : Model → Type 0
 Scores-are-gains m =
-    (rule : Rule) → Lawful rule → (x y : House (m .State)) (answer : Answer) → step m rule x close ≡ done y answer → Closes-with-scores m rule x y
+    (rule : Rule) (x y : House (m .State)) (answer : Answer) → step m rule x close ≡ done y answer → Closes-with-scores m rule x y
 
 -- Exact: close is granted if and only if a count is open, all stations have gathered, no old-coloured slip is under way,
--- and each station has had as many reports in this count as late slips
+-- and each station has had as many reports in this count as late slips. All four go by the accepted calls alone: the slips
+-- under way are those that the plain run of all events leaves
 abbrev pub Closes-exactly : (m : Model) → Rule → (x : House (m .State)) → Type 0
 Closes-exactly m rule x =
     (history : History m rule x) →
     (isDone (step m rule x close) ≡ true)
-    ↔ Complete (x .hall .n) (cutOf (past m rule x history)) (progressOf (past m rule x history)) (slipsOf (x .hall .tray))
+    ↔ Complete (x .hall .n) (cutOf (past m rule x history)) (progressOf (past m rule x history)) (plainRun rule (blank (x .hall .n)) (cutOf (past m rule x history) .all) .underWay)
 
 abbrev pub Close-is-exact : Model → Type 0
 Close-is-exact m = (rule : Rule) (x : House (m .State)) → Closes-exactly m rule x
 
--- The method refuses nothing: its refusals are those from 23 on
+-- The method refuses nothing: where the house's own questions are all answered yes, so are the method's. So no refusal has
+-- a number from 23 on, which are the method's
 abbrev pub Method-refuses-nothing : Model → Type 0
 Method-refuses-nothing m =
-    (rule : Rule) (x : House (m .State)) → History m rule x → (call : Call) (code : ℕ × ℕ × ℕ) →
-    step m rule x call ≡ refused code → code .0 < 23
+    (rule : Rule) (x : House (m .State)) → History m rule x → (call : Call) →
+    (firstNo (houseQuestions rule (x .phase) (x .hall) (m .outstanding (x .method)) call) ≡ None → firstNo (methodQuestions m x call) ≡ None)
+    × ((code : ℕ × ℕ × ℕ) → step m rule x call ≡ refused code → code .0 < 23)
 
 -- Alike: an answer with its control messages set aside
 abbrev pub messagesAside : Answer → Answer
@@ -109,7 +125,19 @@ Methods-agree m k =
     (calls : List Call) →
     (map toldAside (allTold m rule x calls) ≡ map toldAside (allTold k rule y calls)) × Alike (run m rule x calls) (run k rule y calls)
 
--- Lasting: from a close until a file is accepted, record and late list stay as they are, and so does the text
+-- Staying: from a close, or wherever no count is open, until the next accepted open, record and late list stay as they are,
+-- and so does the text; the phase stays too until a file is accepted
+abbrev pub NotOpen : Call → Type 0
+NotOpen (enter s a b r) = Unit {0}
+NotOpen (post s to line amount) = Unit {0}
+NotOpen (take a b) = Unit {0}
+NotOpen (open′ s) = ⊥
+NotOpen (turn s) = Unit {0}
+NotOpen (gather s) = Unit {0}
+NotOpen (report s) = Unit {0}
+NotOpen close = Unit {0}
+NotOpen (file told text) = Unit {0}
+
 abbrev pub NotFile : Call → Type 0
 NotFile (enter s a b r) = Unit {0}
 NotFile (post s to line amount) = Unit {0}
@@ -121,13 +149,13 @@ NotFile (report s) = Unit {0}
 NotFile close = Unit {0}
 NotFile (file told text) = ⊥
 
-pub record Lasts {Q : Type 0} (x y : House Q) : Type 0 where
-  pub phase : y .phase ≡ Closed
+pub record Stays {Q : Type 0} (x y : House Q) : Type 0 where
+  pub shut : isCounting (y .phase) ≡ false  -- no count is open
   pub recorded : y .hall .recorded ≡ x .hall .recorded
   pub late : y .hall .late ≡ x .hall .late
   pub text : textOf (y .hall) ≡ textOf (x .hall)
 
-abbrev pub Counts-last : Model → Type 0
-Counts-last m =
-    (rule : Rule) (x : House (m .State)) (calls : List Call) → x .phase ≡ Closed → All NotFile (accepted m rule x calls) →
-    Lasts x (run m rule x calls)
+abbrev pub Counts-stay : Model → Type 0
+Counts-stay m =
+    (rule : Rule) (x : House (m .State)) (calls : List Call) → isCounting (x .phase) ≡ false → All NotOpen (accepted m rule x calls) →
+    Stays x (run m rule x calls) × (All NotFile (accepted m rule x calls) → run m rule x calls .phase ≡ x .phase)

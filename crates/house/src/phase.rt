@@ -1,4 +1,4 @@
-// What a house is about: between counts it is ready, during a count counting, from its close until its text is filed closed.
+// The phase of a house: between counts it is ready, during a count counting, from its close until its text is filed closed.
 #[derive(Clone, Copy, PartialEq, Eq, Debug)]
 pub enum Phase {
     Ready,

@@ -8,9 +8,9 @@ pub struct Station {
     pub colour: Colour,
     // how many slips it has posted
     pub posted: u32,
-    // slips posted less slips taken since its turn; late ones are not taken off
+    // slips posted less slips taken since its last turn, or since make if it never turned; late ones are not taken off
     pub running: i32,
-    // the running deficit at its turn in this count
+    // the running deficit at its last turn; 0 before the first
     pub frozen: i32,
     // late slips of this count that it has not reported yet
     pub unreported: u32,
