@@ -2,15 +2,7 @@ use sections::Fault;
 use sections::Section;
 
 // Number, cause and line of an answer; all 0 where nothing is refused.
-pub fn told(answer: Result<(), Fault>) -> (u8, u8, u32) {
-    match answer {
-        Ok(()) => (0, 0, 0),
-        Err(fault) => fault.code(),
-    }
-}
-
-// The same of a figure that is asked for.
-pub fn told_figure(answer: Result<i32, Fault>) -> (u8, u8, u32) {
+pub fn told<T: Drop>(answer: Result<T, Fault>) -> (u8, u8, u32) {
     match answer {
         Ok(_) => (0, 0, 0),
         Err(fault) => fault.code(),
