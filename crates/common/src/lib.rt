@@ -1,2 +1,4 @@
 // What every crate speaks with: its definitions are in specs/.
+#![tactic(auto)]
+
 pub mod limits;

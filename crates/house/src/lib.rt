@@ -1,3 +1,5 @@
+#![tactic(auto)]
+
 pub mod colour;
 pub mod laws;
 pub mod phase;

@@ -1,4 +1,6 @@
 // Runs begins and arrivals on both counting methods, and prints the control messages and what is left outstanding.
+#![tactic(auto)]
+
 mod pattern;
 mod refusals;
 mod runs;

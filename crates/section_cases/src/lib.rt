@@ -1,4 +1,5 @@
 // Cases of the two sections at the edges of their rules, as tables; each test is proved safe, and then run.
+#![tactic(auto)]
 
 #[cfg(test)]
 mod bridge_cases;

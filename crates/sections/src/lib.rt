@@ -1,3 +1,5 @@
+#![tactic(auto)]
+
 pub mod bridge;
 mod bridge_rule;
 pub mod chess;

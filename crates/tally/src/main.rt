@@ -1,3 +1,5 @@
+#![tactic(auto)]
+
 use script::{Pending, Tally, answer_text};
 use std::io::Read;
 

@@ -8,5 +8,5 @@ pub returns : goal.returns
 returns c =
     let fr : SFits w32 c.args.r = c.ranges.r in
     let v = chess_entry_lem c.args.self.now.figures.values c.args.a c.args.b c.args.r c.args.self.now.figures.range in
-    let n = simp (c.half-points.ensures, to_z-of_z) at c.enter.ensures in
+    let n = simp (c.half_points.ensures, to_z-of_z) at c.enter.ensures in
     MatchResult-weaker c.enter.result n (λ _ h. (rw v h.0, h.1)) (λ f h. (rw v h.0, rw v h.1, rw h.2))

@@ -18,7 +18,7 @@ pub returns : goal.returns
 returns c =
     let fx : SFits w32 c.args.x = c.ranges.x in
     let fy : SFits w32 c.args.y = c.ranges.y in
-    let p = simp (to_z-of_z, c.first.ensures) at c.in-ok-add.ensures in
-    let q = simp (to_z-of_z, c.second.ensures) at c.in-ok-add-2.ensures in
+    let p = simp (to_z-of_z, c.first.ensures) at c.in_ok-add.ensures in
+    let q = simp (to_z-of_z, c.second.ensures) at c.in_ok-add-2.ensures in
     let k = second_kept c.args.self.now.values c.add.new.self.values c.args.pair.a.number c.args.pair.b.number _ c.args.pair.apart p.1 in
     (p.0, rw k at q.0, pair_of_adds _ _ _ c.args.pair.a.number c.args.pair.b.number c.args.x c.args.y c.args.pair.apart c.args.self.now.size p.1 q.1)
