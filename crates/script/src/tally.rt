@@ -32,10 +32,8 @@ impl Tally {
     {
         match self {
             Tally::Waiting => match read_kind(line) {
-                Some(Kind::Chess) => Ok(Tally::Chess(<sections::chess::Chess as Section>::blank())),
-                Some(Kind::Bridge) => Ok(Tally::Bridge(
-                    <sections::bridge::Bridge as Section>::blank(),
-                )),
+                Some(Kind::Chess) => Ok(Tally::Chess(sections::Chess::blank())),
+                Some(Kind::Bridge) => Ok(Tally::Bridge(sections::Bridge::blank())),
                 None => Err(Refusal::Malformed),
             },
             Tally::Chess(mut sheet) => {

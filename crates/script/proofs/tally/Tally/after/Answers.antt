@@ -7,12 +7,12 @@ use Rattle.script.specs.Numbers.{number}
 use Rattle.script.proofs.Plays.{line_granted}
 use Rattle.script.proofs.tally.Tally.after.Goals as goal
 
-pub returns-in_ok-enter_line : goal.returns-in_ok-enter_line
-returns-in_ok-enter_line c =
+pub returns-in_ok-enter_line-in-Chess : goal.returns-in_ok-enter_line-in-Chess
+returns-in_ok-enter_line-in-Chess c =
     rw c.in-Chess.is
-    (line_granted Chess (chess_section.ghosts).figures (entry_of chess_result c.args.line.now) c.in-Chess.sheet c.enter_line.new.sheet c.in_ok-enter_line.ensures)
+    (line_granted Chess (chess_section.ghosts).figures (entry_of chess_result c.args.line.now) c.in-Chess.sheet c.enter_line.new.sheet c.in_ok-enter_line-in-Chess.ensures)
 
-pub returns-in_ok-enter_line-2 : goal.returns-in_ok-enter_line-2
-returns-in_ok-enter_line-2 c =
+pub returns-in_ok-enter_line-in-Bridge : goal.returns-in_ok-enter_line-in-Bridge
+returns-in_ok-enter_line-in-Bridge c =
     rw c.in-Bridge.is
-    (line_granted Bridge (bridge_section.ghosts).figures (entry_of number c.args.line.now) c.in-Bridge.sheet c.enter_line-in-Bridge.new.sheet c.in_ok-enter_line-2.ensures)
+    (line_granted Bridge (bridge_section.ghosts).figures (entry_of number c.args.line.now) c.in-Bridge.sheet c.enter_line-in-Bridge.new.sheet c.in_ok-enter_line-in-Bridge.ensures)
