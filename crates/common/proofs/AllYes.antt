@@ -1,6 +1,5 @@
 -- No question is answered no exactly where all are answered yes.
-use Rattle.std.proofs.Common.{◌≡◌, ℕ, Bool, true, false, cond, List, [], ◌∷◌, ◌++◌, Some, None, sym, refl, arith}
-use Rattle.std.proofs.lemmas.Bool.{true≢false}
+use Rattle.std.proofs.Common.{◌≡◌, ℕ, Bool, true, false, cond, List, [], ◌∷◌, ◌++◌, Some, None, refl, arith}
 use Rattle.common.specs.Questions.{Question, first_no, all_yes}
 
 abbrev pub AllYes : {C : Type 0} → List (Question C) → Type 0

@@ -1,7 +1,7 @@
 -- Every accepted call keeps the invariant.
 use Rattle.std.proofs.Common.{◌≡◌, ℕ, ◌+◌, ◌*◌, Bool, true, false, cond, eqb, List, pos, nat_abs, Some, None, Option, sym, refl, ap, ◌∙◌, subst}
 use Rattle.std.proofs.lemmas.Bool.{true≢false, eqb-true, ltb-true, and_parts, not-true}
-use Rattle.sections.specs.Rule.{Rule, Lawful}
+use Rattle.sections.specs.Rule.{Rule}
 use Rattle.methods.specs.Model.{Model, begin_questions}
 use Rattle.house.specs.declared.phase.Phase.{Phase}
 use Rattle.house.specs.declared.slip.ColouredSlip.{ColouredSlip}

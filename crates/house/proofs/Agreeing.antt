@@ -1,7 +1,7 @@
 -- Two houses that are made alike but for the method tell the same and stay alike, messages aside.
 use Rattle.std.proofs.Common.{◌≡◌, ℕ, ◌+◌, Bool, true, false, cond, eqb, List, [], ◌∷◌, map, length, nat_abs, Some, None, Option, sym, refl, ap, ◌∙◌, subst, arith}
 use Rattle.std.proofs.lemmas.Bool.{eqb-true}
-use Rattle.sections.specs.Rule.{Rule, Lawful}
+use Rattle.sections.specs.Rule.{Rule}
 use Rattle.methods.specs.Model.{Model}
 use Rattle.methods.specs.Questions.{first_no}
 use Rattle.house.specs.declared.phase.Phase.{Phase}

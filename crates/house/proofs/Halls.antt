@@ -16,7 +16,7 @@ use Rattle.house.specs.Taking.{took_station, late_station, arrives, arrives_late
 use Rattle.house.specs.Turning.{turned_station, turns}
 use Rattle.house.proofs.Played.{get_or-put, put_own, same_view, find_push, find_less}
 use Rattle.house.proofs.Slips.{Distinct}
-use Rattle.house.proofs.Views.{View, Acts, Numbered, apart, enters', posts', takes'}
+use Rattle.house.proofs.Views.{View, Acts, Numbered, enters', posts', takes'}
 
 -- the hall as the plain house sees it
 abbrev pub hall_view : Hall → View

@@ -6,7 +6,6 @@ use Rattle.house.specs.Cut.{put, put2}
 use Rattle.house.specs.Names.{same, find, without}
 use Rattle.house.proofs.Played.{find_push}
 use Rattle.house.proofs.Slips.{same_true, Distinct, find_without, distinct_without, distinct_push}
-use Rattle.house.proofs.Views.{apart}
 
 -- names differ in the tray, in the late list and between them; their numbers were given; receivers are stations
 pub record Naming (n : ℕ) (posted : ℕ → ℕ) (tray late : List Slip) : Type 0 where

@@ -1,7 +1,7 @@
 -- No refusal in a history is the method's.
 use Rattle.std.proofs.Common.{ℕ, ◌<◌, Bool, true, false, cond, ltb, length, Some, None, Option, sym, ◌∙◌, arith}
 use Rattle.sections.specs.Codes.{verdict_code}
-use Rattle.sections.specs.Rule.{Verdict, Rule, Lawful, admitted, denied}
+use Rattle.sections.specs.Rule.{Verdict, Rule, admitted, denied}
 use Rattle.methods.specs.Model.{Model}
 use Rattle.methods.specs.Questions.{ask, first_no}
 use Rattle.house.specs.declared.phase.Phase.{Phase}

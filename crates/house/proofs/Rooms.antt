@@ -2,7 +2,7 @@
 use Rattle.std.proofs.Common.{◌≡◌, ℕ, ◌<◌, Bool, true, false, cond, ◌&&◌, eqb, ltb, map, length, get_or, set, Some, None, Option, sym, refl, ap, ◌∙◌, arith}
 use Rattle.std.proofs.lemmas.List.{length-set, length-map, length_push}
 use Rattle.std.proofs.lemmas.Bool.{true≢false, eqb-true, eqb-false, ltb-true, and_parts, and_from}
-use Rattle.sections.specs.Rule.{Rule, Lawful}
+use Rattle.sections.specs.Rule.{Rule}
 use Rattle.methods.specs.Model.{Model}
 use Rattle.house.specs.declared.phase.Phase.{Phase}
 use Rattle.house.specs.declared.phase.Phase.TheVariants.{Ready, Counting, Closed}
@@ -24,7 +24,6 @@ use Rattle.house.proofs.Halls.{field_put, find_coloured_lem}
 use Rattle.house.proofs.Holding.{Room, begun?, Served, Holds, served_on, length-less, root_kept}
 use Rattle.house.proofs.Phases.{is_ready_lem, is_closed_lem}
 use Rattle.house.proofs.Rounds.{mapped}
-use Rattle.house.proofs.Split.{free}
 use Rattle.house.proofs.Views.{put_other}
 use Rattle.methods.specs.Model as models
 

@@ -5,7 +5,7 @@ use Rattle.std.proofs.Math.Nat.{div-eq_of_lt-le}
 use Rattle.std.specs.List.{range_with_len}
 use Rattle.std.proofs.lemmas.List.FromFn.{length-map-range_with_len, get_or-map-range_with_len, sum_by-map-range_with_len_more}
 use Rattle.std.proofs.lemmas.Bool.{cond_both, ltb-true, ltb-false}
-use Rattle.methods.specs.Tokens.{green, tokens_at}
+use Rattle.methods.specs.Tokens.{tokens_at}
 use Rattle.methods.specs.Deal.{dealt, dealt_to, round_limit}
 
 pub dealt_long : (n total : ℕ) → length (dealt n total) ≡ n
