@@ -4,7 +4,7 @@ use Rattle.std.proofs.ByRecursion.{All-map}
 use Rattle.std.proofs.lemmas.List.{length-replicate, ext_get_or}
 use Rattle.std.proofs.lemmas.Int.{ints}
 use Rattle.std.proofs.lemmas.Bool.{not-false}
-use Rattle.std.specs.List.{AllByRecursion as All}
+use Rattle.std.specs.List.{AllByRecursion}
 use Rattle.std.specs.List.Sorted.{IsPermutation}
 use Rattle.sections.specs.Rule.{Rule, blank_sheet}
 use Rattle.house.specs.declared.colour.Colour.{Colour}
@@ -39,7 +39,7 @@ blank_wide (suc n) (suc s) l = blank_wide n s (omega arith)
 pub fine_blank : (n : ℕ) → Fine n (blank n)
 fine_blank n = record { sheets = length-replicate n blank_sheet; posted = length-replicate n 0; distinct = tt; numbered = start_numbered n; wide = λ s l. blank_wide n s l }
 
-pub all_new : (base : Colour) (new : ℕ → ℕ → Bool) (xs : List ColouredSlip) → All (λ (x : ColouredSlip). x.colour ≡ shade base (new x.slip.sender x.slip.number)) xs → All (λ (x : ColouredSlip). not (new x.slip.sender x.slip.number) ≡ false) xs → All (λ (x : ColouredSlip). x.colour ≡ shade base true) xs
+pub all_new : (base : Colour) (new : ℕ → ℕ → Bool) (xs : List ColouredSlip) → AllByRecursion (λ (x : ColouredSlip). x.colour ≡ shade base (new x.slip.sender x.slip.number)) xs → AllByRecursion (λ (x : ColouredSlip). not (new x.slip.sender x.slip.number) ≡ false) xs → AllByRecursion (λ (x : ColouredSlip). x.colour ≡ shade base true) xs
 all_new base new [] h k = tt
 all_new base new (x ∷ xs) h k =
     let e : new x.slip.sender x.slip.number ≡ true = not-false (new x.slip.sender x.slip.number) k.0 in
@@ -56,7 +56,7 @@ module _ (r : Rule) (c : Cut) (p : Phase) (h : Hall) (out : ℕ) (so : Sound r c
     pub no_olds : count (λ a b. not (c.new a b)) h.tray ≡ 0
     no_olds = let o = owed in omega arith
 
-    pub none_old : All (λ (x : ColouredSlip). not (c.new x.slip.sender x.slip.number) ≡ false) h.tray
+    pub none_old : AllByRecursion (λ (x : ColouredSlip). not (c.new x.slip.sender x.slip.number) ≡ false) h.tray
     none_old = count_zero (λ a b. not (c.new a b)) h.tray no_olds
 
     pub close_sound : Sound r c Closed h out

@@ -2,7 +2,7 @@
 use Rattle.std.proofs.Common.{◌≡◌, ℕ, ◌<◌, Bool, true, false, cond, eqb, List, [], ◌∷◌, ◌++◌, Some, None, refl, ap, ◌∙◌, arith}
 use Rattle.std.proofs.ByRecursion.{All-append}
 use Rattle.std.proofs.lemmas.Bool.Decides.{nat_tests}
-use Rattle.std.specs.List.{AllByRecursion as All}
+use Rattle.std.specs.List.{AllByRecursion}
 use Rattle.house.specs.declared.colour.Colour.{Colour}
 use Rattle.house.specs.declared.slip.ColouredSlip.{ColouredSlip}
 use Rattle.house.specs.declared.slip.Slip.{Slip}
@@ -20,19 +20,19 @@ shade base t = cond t (other base) base
 pub record Colouring (n : ℕ) (base : Colour) (T : ℕ → Bool) (C : ℕ → Colour) (tray : List ColouredSlip) (late : List Slip) (turned : ℕ → Bool) (new : ℕ → ℕ → Bool) : Type 0 where
   pub marked : (s : ℕ) → s < n → T s ≡ turned s
   pub coloured : (s : ℕ) → s < n → C s ≡ shade base (turned s)
-  pub slips : All (λ (x : ColouredSlip). x.colour ≡ shade base (new x.slip.sender x.slip.number)) tray
+  pub slips : AllByRecursion (λ (x : ColouredSlip). x.colour ≡ shade base (new x.slip.sender x.slip.number)) tray
   pub old_late : (a b : ℕ) (x : Slip) → find a b late ≡ Some x → new a b ≡ false
 
-pub all_less : (P : ColouredSlip → Type 0) (a b : ℕ) (xs : List ColouredSlip) → All P xs → All P (without_coloured a b xs)
+pub all_less : (P : ColouredSlip → Type 0) (a b : ℕ) (xs : List ColouredSlip) → AllByRecursion P xs → AllByRecursion P (without_coloured a b xs)
 all_less P a b [] h = tt
 all_less P a b (x ∷ xs) h = let ih = all_less P a b xs h.1 in go (named a b x.slip) ih
   where
-    go : (t : Bool) → All P (without_coloured a b xs) → All P (cond t xs (x ∷ without_coloured a b xs))
+    go : (t : Bool) → AllByRecursion P (without_coloured a b xs) → AllByRecursion P (cond t xs (x ∷ without_coloured a b xs))
     go true ih = h.1
     go false ih = (h.0, ih)
 
 -- with a new name, what holds by the names goes on holding
-pub all_renamed : (base : Colour) (new : ℕ → ℕ → Bool) (a b : ℕ) (v : Bool) (xs : List ColouredSlip) → find a b (slips_of xs) ≡ None → All (λ (x : ColouredSlip). x.colour ≡ shade base (new x.slip.sender x.slip.number)) xs → All (λ (x : ColouredSlip). x.colour ≡ shade base (put2 new a b v x.slip.sender x.slip.number)) xs
+pub all_renamed : (base : Colour) (new : ℕ → ℕ → Bool) (a b : ℕ) (v : Bool) (xs : List ColouredSlip) → find a b (slips_of xs) ≡ None → AllByRecursion (λ (x : ColouredSlip). x.colour ≡ shade base (new x.slip.sender x.slip.number)) xs → AllByRecursion (λ (x : ColouredSlip). x.colour ≡ shade base (put2 new a b v x.slip.sender x.slip.number)) xs
 all_renamed base new a b v [] e h = tt
 all_renamed base new a b v (x ∷ xs) e h =
     let k : named a b x.slip ≡ false = grind arith in

@@ -3,7 +3,7 @@ use Rattle.std.proofs.Common.{◌≡◌, ℕ, suc, true, not, List, [], ◌∷�
 use mathlib.Core.Path.{fun_ext}
 use Rattle.std.proofs.ByRecursion.{All-weaker}
 use Rattle.std.proofs.lemmas.Bool.{true≢false, eqb-true, not-false, eq-eqb}
-use Rattle.std.specs.List.{AllByRecursion as All}
+use Rattle.std.specs.List.{AllByRecursion}
 use Rattle.sections.specs.Rule.{Rule}
 use Rattle.methods.specs.Model.{Model}
 use Rattle.methods.specs.Questions.{first_no}
@@ -56,11 +56,11 @@ history_kept m ml rule x history =
     (run_kept m ml rule history.calls no_cut no_progress history.first (subst (λ y. Holds m rule no_cut y) (sym g.1) k) (subst (λ (y : House m.State). Kept no_progress y.phase y.hall) (sym g.1) (made_kept history.n history.tray_cells history.late_cells)))
 
 -- the slips of a tray, without and with their colours
-all_plain : (P : Slip → Type 0) (xs : List ColouredSlip) → All (λ (x : ColouredSlip). P x.slip) xs → All P (slips_of xs)
+all_plain : (P : Slip → Type 0) (xs : List ColouredSlip) → AllByRecursion (λ (x : ColouredSlip). P x.slip) xs → AllByRecursion P (slips_of xs)
 all_plain P [] h = tt
 all_plain P (x ∷ xs) h = (h.0, all_plain P xs h.1)
 
-plain_all : (P : Slip → Type 0) (xs : List ColouredSlip) → All P (slips_of xs) → All (λ (x : ColouredSlip). P x.slip) xs
+plain_all : (P : Slip → Type 0) (xs : List ColouredSlip) → AllByRecursion P (slips_of xs) → AllByRecursion (λ (x : ColouredSlip). P x.slip) xs
 plain_all P [] h = tt
 plain_all P (x ∷ xs) h = (h.0, plain_all P xs h.1)
 

@@ -2,7 +2,7 @@
 use Rattle.std.proofs.Common.{◌≡◌, ℕ, ◌+◌, ◌<◌, ◌≤◌, Bool, true, false, cond, eqb, List, [], ◌∷◌, ◌++◌, length, get_or, set, ℤ, Some, None, Option, sym, refl, ap, ◌∙◌, subst, arith}
 use mathlib.Core.Path.{fun_ext}
 use Rattle.std.proofs.lemmas.List.{map-append, length-set}
-use Rattle.std.specs.List.{AllByRecursion as All}
+use Rattle.std.specs.List.{AllByRecursion}
 use Rattle.sections.specs.Rule.{Rule, admits}
 use Rattle.house.specs.declared.slip.ColouredSlip.{ColouredSlip}
 use Rattle.house.specs.declared.slip.Slip.{Slip}
@@ -52,7 +52,7 @@ find_coloured_lem a b (y ∷ ys) x e = let ih = find_coloured_lem a b ys x in go
     go true t ih = rw t (let s : y ≡ x = cc in ap (λ k. Some k.slip) s)
     go false t ih = rw t (ih (cc))
 
-pub all_coloured : (P : ColouredSlip → Type 0) (a b : ℕ) (xs : List ColouredSlip) (x : ColouredSlip) → All P xs → find_coloured a b xs ≡ Some x → P x
+pub all_coloured : (P : ColouredSlip → Type 0) (a b : ℕ) (xs : List ColouredSlip) (x : ColouredSlip) → AllByRecursion P xs → find_coloured a b xs ≡ Some x → P x
 all_coloured P a b [] x h e = let z : ◌≡◌ {A = ℕ} 0 1 = cc in absurd (omega arith)
 all_coloured P a b (y ∷ ys) x h e = let ih = all_coloured P a b ys x h.1 in go (named a b y.slip) refl ih
   where

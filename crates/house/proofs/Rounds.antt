@@ -3,7 +3,7 @@ use Rattle.std.proofs.Common.{◌≡◌, ℕ, zero, suc, ◌+◌, ◌*◌, ◌<�
 use mathlib.Core.Path.{fun_ext}
 use Rattle.std.proofs.lemmas.List.{length-set, length-map}
 use Rattle.std.proofs.lemmas.Bool.{eqb-true, eqb-false, lt-leb}
-use Rattle.std.specs.List.{AllByRecursion as All}
+use Rattle.std.specs.List.{AllByRecursion}
 use Rattle.sections.specs.Rule.{Rule}
 use Rattle.house.specs.declared.phase.Phase.{Phase}
 use Rattle.house.specs.declared.phase.Phase.TheVariants.{Ready, Counting, Closed}
@@ -88,7 +88,7 @@ module _ (r : Rule) (c : Cut) (p : Phase) (h : Hall) (out : ℕ) (so : Sound r c
       view : hall_view (cleared h) ≡ hall_view h
       view = same_view (hall_view (cleared h)) (hall_view h) refl (fun_ext (λ s. ap (λ t. t.posted) (mapped h.stations s))) refl
 
-      falses : (xs : List ColouredSlip) → All (λ (x : ColouredSlip). false ≡ false) xs
+      falses : (xs : List ColouredSlip) → AllByRecursion (λ (x : ColouredSlip). false ≡ false) xs
       falses [] = tt
       falses (x ∷ xs) = (refl, falses xs)
 

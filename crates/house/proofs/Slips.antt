@@ -3,7 +3,7 @@ use Rattle.std.proofs.Common.{◌≡◌, ℕ, Bool, true, false, cond, eqb, List
 use Rattle.std.proofs.lemmas.List.Sorted.{IsPermutation-refl, IsPermutation-cons, IsPermutation-trans, IsPermutation-swap}
 use Rattle.std.proofs.lemmas.Bool.{eqb-true, and_parts, eq-eqb, and_from}
 use Rattle.std.proofs.lemmas.Bool.Decides.{nat_tests}
-use Rattle.std.specs.List.{AllByRecursion as All}
+use Rattle.std.specs.List.{AllByRecursion}
 use Rattle.std.specs.List.Sorted.{IsPermutation}
 use Rattle.house.specs.declared.slip.Slip.{Slip}
 use Rattle.house.specs.Names.{same, named, find, without}
@@ -26,7 +26,7 @@ pub find_named : (a b : ℕ) (xs : List Slip) (n : Slip) → find a b xs ≡ Som
 find_named a b [] n e = grind arith
 find_named a b (x ∷ xs) n e = let ih = find_named a b xs n in grind (arith, nat_tests)
 
-pub find_all : (P : Slip → Type 0) (a b : ℕ) (xs : List Slip) (n : Slip) → All P xs → find a b xs ≡ Some n → P n
+pub find_all : (P : Slip → Type 0) (a b : ℕ) (xs : List Slip) (n : Slip) → AllByRecursion P xs → find a b xs ≡ Some n → P n
 find_all P a b [] n h e = let z : ◌≡◌ {A = ℕ} 0 1 = cc in absurd (omega arith)
 find_all P a b (x ∷ xs) n h e = go (named a b x) refl (find_all P a b xs n h.1)
   where

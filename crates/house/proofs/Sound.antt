@@ -1,7 +1,7 @@
 -- The invariant: what holds of the hall, the cut and the outstanding number after every history.
 use Rattle.std.proofs.Common.{◌≡◌, ℕ, zero, suc, ◌+◌, ◌*◌, ◌/◌, ◌%◌, ◌<◌, ◌≤◌, Bool, true, false, not, eqb, List, [], map, length, get_or, ℤ, pos, Some, sym, refl, ap, ◌∙◌, arith}
 use Rattle.std.proofs.lemmas.Bool.{eqb-true, eqb-false}
-use Rattle.std.specs.List.{AllByRecursion as All}
+use Rattle.std.specs.List.{AllByRecursion}
 use Rattle.sections.specs.Rule.{Rule}
 use Rattle.house.specs.declared.colour.Colour.{Colour}
 use Rattle.house.specs.declared.phase.Phase.{Phase}
@@ -38,7 +38,7 @@ pub record Common (n : ℕ) (r : Rule) (all : List Event) (sent : ℕ → ℕ) (
 pub record Between (n : ℕ) (C : ℕ → Colour) (R : ℕ → ℤ) (tray : List ColouredSlip) : Type 0 where
   pub base : Colour
   pub coloured : (s : ℕ) → s < n → C s ≡ base
-  pub slips : All (λ (x : ColouredSlip). x.colour ≡ base) tray
+  pub slips : AllByRecursion (λ (x : ColouredSlip). x.colour ≡ base) tray
   pub running : sum_z R n ≡ pos (count (λ a b. true) tray)
 
 -- a station that has gathered has turned, and so have its children gathered

@@ -4,7 +4,7 @@ use Rattle.std.proofs.ByRecursion.{All-append, All-weaker}
 use Rattle.std.proofs.lemmas.List.{map-append}
 use Rattle.std.proofs.lemmas.Bool.{eqb-true, eqb-false}
 use Rattle.std.proofs.lemmas.Bool.Decides.{nat_tests}
-use Rattle.std.specs.List.{AllByRecursion as All}
+use Rattle.std.specs.List.{AllByRecursion}
 use Rattle.sections.specs.Rule.{Rule}
 use Rattle.house.specs.declared.slip.Slip.{Slip}
 use Rattle.house.specs.Cut.{put}
@@ -33,15 +33,15 @@ pub record Split (n : ℕ) (r : Rule) (start : View) (recorded : ℕ → List �
   pub is_post : map event_of dpost ≡ post
   pub before : Acted n r start dpre x
   pub rest : Acted n r x dpost v
-  pub who : All (λ d. turned (actor d) ≡ true) dpost
-  pub made : All (Fresh new) dpost
+  pub who : AllByRecursion (λ d. turned (actor d) ≡ true) dpost
+  pub made : AllByRecursion (Fresh new) dpost
   pub sheets : (s : ℕ) → s < n → x.sheet s ≡ cond (turned s) (recorded s) (v.sheet s)
   pub slips : (a b : ℕ) → x.slips a b ≡ pending new v.slips late a b
 
 pub event_push : (ds : List FullEvent) (d : FullEvent) (es : List Event) → map event_of ds ≡ es → map event_of (ds ++ d ∷ []) ≡ es ++ event_of d ∷ []
 event_push ds d es e = map-append event_of ds (d ∷ []) ∙ ap (λ l. l ++ event_of d ∷ []) e
 
-pub all_both : {X : Type 0} (P Q : X → Type 0) (xs : List X) → All P xs → All Q xs → All (λ x. P x × Q x) xs
+pub all_both : {X : Type 0} (P Q : X → Type 0) (xs : List X) → AllByRecursion P xs → AllByRecursion Q xs → AllByRecursion (λ x. P x × Q x) xs
 all_both P Q [] p q = tt
 all_both P Q (x ∷ xs) p q = ((p.0, q.0), all_both P Q xs p.1 q.1)
 

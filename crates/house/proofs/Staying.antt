@@ -1,7 +1,7 @@
 -- Between a close and the next accepted open, record, late list and text stay as they are.
 use Rattle.std.proofs.Common.{◌≡◌, ℕ, Bool, true, false, List, [], ◌∷◌, Some, None, Option, sym, refl, ap, ◌∙◌}
 use Rattle.std.proofs.lemmas.Bool.{true≢false}
-use Rattle.std.specs.List.{AllByRecursion as All}
+use Rattle.std.specs.List.{AllByRecursion}
 use Rattle.sections.specs.Rule.{Rule}
 use Rattle.methods.specs.Model.{Model}
 use Rattle.methods.specs.Questions.{first_no}
@@ -40,11 +40,11 @@ module _ (m : Model) (rule : Rule) where
   accepted_stays x close e w y = absurd (never (is_counting x.phase) y.0 e)
   accepted_stays x (file told text) e w y = (stays x (after m rule x (file told text)) refl refl refl, λ f. absurd f)
 
-  run_stays : (calls : List Call) (x : House m.State) → is_counting x.phase ≡ false → All NotOpen (accepted m rule x calls) → Stays x (run m rule x calls) × (All NotFile (accepted m rule x calls) → (run m rule x calls).phase ≡ x.phase)
+  run_stays : (calls : List Call) (x : House m.State) → is_counting x.phase ≡ false → AllByRecursion NotOpen (accepted m rule x calls) → Stays x (run m rule x calls) × (AllByRecursion NotFile (accepted m rule x calls) → (run m rule x calls).phase ≡ x.phase)
   run_stays [] x e w = (stays x x e refl refl, λ _. refl)
   run_stays (call ∷ calls) x e w = go (first_no (questions m rule x call)) refl w (λ x' e' w'. run_stays calls x' e' w')
     where
-      go : (o : Option (ℕ × ℕ × ℕ)) → first_no (questions m rule x call) ≡ o → All NotOpen (only_done (outcome o (after m rule x call) (reply m x call)) call (accepted m rule (next x (outcome o (after m rule x call) (reply m x call))) calls)) → ((x' : House m.State) → is_counting x'.phase ≡ false → All NotOpen (accepted m rule x' calls) → Stays x' (run m rule x' calls) × (All NotFile (accepted m rule x' calls) → (run m rule x' calls).phase ≡ x'.phase)) → Stays x (run m rule (next x (outcome o (after m rule x call) (reply m x call))) calls) × (All NotFile (only_done (outcome o (after m rule x call) (reply m x call)) call (accepted m rule (next x (outcome o (after m rule x call) (reply m x call))) calls)) → (run m rule (next x (outcome o (after m rule x call) (reply m x call))) calls).phase ≡ x.phase)
+      go : (o : Option (ℕ × ℕ × ℕ)) → first_no (questions m rule x call) ≡ o → AllByRecursion NotOpen (only_done (outcome o (after m rule x call) (reply m x call)) call (accepted m rule (next x (outcome o (after m rule x call) (reply m x call))) calls)) → ((x' : House m.State) → is_counting x'.phase ≡ false → AllByRecursion NotOpen (accepted m rule x' calls) → Stays x' (run m rule x' calls) × (AllByRecursion NotFile (accepted m rule x' calls) → (run m rule x' calls).phase ≡ x'.phase)) → Stays x (run m rule (next x (outcome o (after m rule x call) (reply m x call))) calls) × (AllByRecursion NotFile (only_done (outcome o (after m rule x call) (reply m x call)) call (accepted m rule (next x (outcome o (after m rule x call) (reply m x call))) calls)) → (run m rule (next x (outcome o (after m rule x call) (reply m x call))) calls).phase ≡ x.phase)
       go None q w ih =
           let y = yes_parts (house_questions rule x.phase x.hall (m.outstanding x.method) call) (method_questions m x call) (all_yes_lem (questions m rule x call) q) in
           let one = accepted_stays x call e w.0 y.0 in

@@ -2,7 +2,7 @@
 use Rattle.std.proofs.Common.{◌≡◌, ℕ, zero, suc, ◌+◌, ◌*◌, ◌<◌, ◌≤◌, Bool, true, false, cond, not, eqb, List, [], ◌∷◌, ◌++◌, ℤ, pos, ◌+ℤ◌, Some, None, refl, ap, ◌∙◌, arith}
 use Rattle.std.proofs.lemmas.Int.{ints}
 use Rattle.std.proofs.lemmas.Bool.{eqb-true, eqb-false}
-use Rattle.std.specs.List.{AllByRecursion as All}
+use Rattle.std.specs.List.{AllByRecursion}
 use Rattle.house.specs.declared.slip.ColouredSlip.{ColouredSlip}
 use Rattle.house.specs.declared.slip.Slip.{Slip}
 use Rattle.house.specs.Cut.{put}
@@ -120,7 +120,7 @@ count_both p (x ∷ xs) = let ih = count_both p xs in go (p x.slip.sender x.slip
     go true ih = omega arith
     go false ih = omega arith
 
-pub count_zero : (p : ℕ → ℕ → Bool) (xs : List ColouredSlip) → count p xs ≡ 0 → All (λ (x : ColouredSlip). p x.slip.sender x.slip.number ≡ false) xs
+pub count_zero : (p : ℕ → ℕ → Bool) (xs : List ColouredSlip) → count p xs ≡ 0 → AllByRecursion (λ (x : ColouredSlip). p x.slip.sender x.slip.number ≡ false) xs
 count_zero p [] e = tt
 count_zero p (x ∷ xs) e = (go (p x.slip.sender x.slip.number) refl, count_zero p xs (omega arith))
   where
@@ -128,7 +128,7 @@ count_zero p (x ∷ xs) e = (go (p x.slip.sender x.slip.number) refl, count_zero
     go false t = refl
     go true t = let k : ◌≡◌ {A = ℕ} (cond (p x.slip.sender x.slip.number) 1 0) 1 = rw t in absurd (omega arith)
 
-pub count_none : (p : ℕ → ℕ → Bool) (xs : List ColouredSlip) → All (λ (x : ColouredSlip). p x.slip.sender x.slip.number ≡ false) xs → count p xs ≡ 0
+pub count_none : (p : ℕ → ℕ → Bool) (xs : List ColouredSlip) → AllByRecursion (λ (x : ColouredSlip). p x.slip.sender x.slip.number ≡ false) xs → count p xs ≡ 0
 count_none p [] h = refl
 count_none p (x ∷ xs) h = let ih = count_none p xs h.1 in rw h.0 (omega arith)
 

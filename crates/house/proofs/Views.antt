@@ -3,7 +3,7 @@ use Rattle.std.proofs.Common.{◌≡◌, ℕ, ◌+◌, ◌<◌, ◌≤◌, Bool,
 use mathlib.Core.Path.{fun_ext}
 use Rattle.std.proofs.lemmas.Bool.{eq-eqb, ne_eqb}
 use Rattle.std.proofs.lemmas.Bool.Decides.{nat_tests}
-use Rattle.std.specs.List.{AllByRecursion as All}
+use Rattle.std.specs.List.{AllByRecursion}
 use Rattle.sections.specs.Rule.{Verdict, Rule, admits, entered, debited, credited}
 use Rattle.house.specs.declared.slip.Slip.{Slip}
 use Rattle.house.specs.Cut.{put, put2}
@@ -239,7 +239,7 @@ acted_push n r [] e x y z h a = (z, subst (λ v. Acts n r v e z) (sym h) a, refl
 acted_push n r (d ∷ ds) e x y z h a = (h.0, h.1, acted_push n r ds e h.0 y z h.2 a)
 
 -- an event of another station goes before all of them
-pub moves : (n : ℕ) (r : Rule) (ds : List FullEvent) (e : FullEvent) (x y z : View) → Numbered x → Acted n r x ds y → Acts n r y e z → All (λ d. (actor d ≢ actor e) × Free d e) ds → (w : View) × Acts n r x e w × Acted n r w ds z
+pub moves : (n : ℕ) (r : Rule) (ds : List FullEvent) (e : FullEvent) (x y z : View) → Numbered x → Acted n r x ds y → Acts n r y e z → AllByRecursion (λ d. (actor d ≢ actor e) × Free d e) ds → (w : View) × Acts n r x e w × Acted n r w ds z
 moves n r [] e x y z num h a al = (z, subst (λ v. Acts n r v e z) (sym h) a, refl)
 moves n r (d ∷ ds) e x y z num h a al =
     let i = moves n r ds e h.0 y z (numbered_acts n r x h.0 d num h.1) h.2 a al.1 in

@@ -1,6 +1,6 @@
 -- How far the present count is, read off the accepted calls alone.
 use Rattle.std.specs.Prelude.{◌≡◌, ℕ, ◌+◌, ◌<◌, Bool, true, false, cond, not, ◌&&◌, List, [], ◌∷◌}
-use Rattle.std.specs.List.{AllByRecursion as All}
+use Rattle.std.specs.List.{AllByRecursion}
 use Rattle.house.specs.declared.slip.Slip.{Slip}
 use Rattle.house.specs.Calls.{Call, enter, post, take, open', turn, gather, report, close, file}
 use Rattle.house.specs.Cut.{Cut, put, cut_after, no_cut}
@@ -44,5 +44,5 @@ progress_of calls = progress_after_all no_cut no_progress calls
 pub record Complete (n : ℕ) (c : Cut) (g : Progress) (under_way : List Slip) : Type 0 where
   pub opened : g.open? ≡ true
   pub gathered : (s : ℕ) → s < n → g.gathered s ≡ true
-  pub arrived : All (λ (x : Slip). c.new x.sender x.number ≡ true) under_way  -- none is old-coloured
+  pub arrived : AllByRecursion (λ (x : Slip). c.new x.sender x.number ≡ true) under_way  -- none is old-coloured
   pub reported : (s : ℕ) → s < n → g.reports s ≡ g.late_takes s

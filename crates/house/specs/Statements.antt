@@ -1,6 +1,6 @@
 -- What is proved of every count, for every list of calls from a made house.
 use Rattle.std.specs.Prelude.{◌≡◌, ℕ, ◌<◌, true, false, ◌↔◌, List, ◌++◌, map, ℤ, pos, None}
-use Rattle.std.specs.List.{AllByRecursion as All}
+use Rattle.std.specs.List.{AllByRecursion}
 use Rattle.std.specs.List.Sorted.{IsPermutation}
 use Rattle.sections.specs.Rule.{Rule}
 use Rattle.methods.specs.Questions.{first_no}
@@ -151,5 +151,5 @@ pub record Stays {Q : Type 0} (x y : House Q) : Type 0 where
 
 abbrev pub CountsStay : Model → Type 0
 CountsStay m =
-    (rule : Rule) (x : House m.State) (calls : List Call) → is_counting x.phase ≡ false → All NotOpen (accepted m rule x calls) →
-    Stays x (run m rule x calls) × (All NotFile (accepted m rule x calls) → (run m rule x calls).phase ≡ x.phase)
+    (rule : Rule) (x : House m.State) (calls : List Call) → is_counting x.phase ≡ false → AllByRecursion NotOpen (accepted m rule x calls) →
+    Stays x (run m rule x calls) × (AllByRecursion NotFile (accepted m rule x calls) → (run m rule x calls).phase ≡ x.phase)
