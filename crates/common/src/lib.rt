@@ -1,4 +1,4 @@
-// What every crate speaks with: its definitions are in specs/.
+// What the crates are to share; nothing uses it yet. Its definitions are in specs/.
 #![tactic(auto)]
 
 pub mod limits;

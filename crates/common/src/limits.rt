@@ -1,4 +1,4 @@
-// The limits of the congress. Definitions cite them by the names of specs/Limits.
+// The limits of the congress, as code names them; specs/Limits has the same for definitions, and no proof ties the two yet.
 
 // A sheet has lines 0 to 31.
 pub const LINES: u32 = 32;

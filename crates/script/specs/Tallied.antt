@@ -8,5 +8,5 @@ use Rattle.script.specs.declared.words.Kind.{Kind}
 
 abbrev pub round_of : Tally → Round
 round_of Waiting = waiting
-round_of (Chess s) = playing Kind.Chess ((chess_section.ghosts).figures s)
-round_of (Bridge s) = playing Kind.Bridge ((bridge_section.ghosts).figures s)
+round_of (Chess s) = playing Kind.Chess (chess_section.ghosts.figures s)
+round_of (Bridge s) = playing Kind.Bridge (bridge_section.ghosts.figures s)

@@ -20,14 +20,14 @@ pub struct Entry {
 
 // How a section's results are written.
 pub trait ResultField: Section {
-    ghost result_of: { List ℕ → Option ℤ };
+    ghost field_result: { List ℕ → Option ℤ };
 
     fn read_result(field: &[u8]) -> Option<i32>
-        ensures { result ≡ result_of field.now };
+        ensures { result ≡ field_result field.now };
 }
 
 impl ResultField for Chess {
-    ghost result_of = { chess_result };
+    ghost field_result = { chess_result };
 
     fn read_result(field: &[u8]) -> Option<i32> {
         read_letter(field)
@@ -35,7 +35,7 @@ impl ResultField for Chess {
 }
 
 impl ResultField for Bridge {
-    ghost result_of = { number };
+    ghost field_result = { number };
 
     fn read_result(field: &[u8]) -> Option<i32> {
         read_number(field)
@@ -44,7 +44,7 @@ impl ResultField for Bridge {
 
 // A line that enters a result, taken apart.
 pub fn read_entry<S: ResultField>(line: &[u8]) -> Option<Entry>
-    ensures { result ≡ entry_of S.ResultField.result_of line.now }
+    ensures { result ≡ entry_of S.ResultField.field_result line.now }
 {
     let (first, more) = first_field(line);
     let (second, last) = first_field(more?);
@@ -60,7 +60,7 @@ pub fn read_entry<S: ResultField>(line: &[u8]) -> Option<Entry>
 
 // Plays a line of a script on a sheet.
 pub fn enter_line<S: ResultField>(sheet: &mut S, line: &[u8]) -> Result<(), Refusal>
-    ensures { LineDid S.Section.rule S.Section.figures (entry_of S.ResultField.result_of line.now) sheet.old sheet.new result }
+    ensures { LineDid S.Section.rule S.Section.figures (entry_of S.ResultField.field_result line.now) sheet.old sheet.new result }
 {
     let Some(entry) = read_entry::<S>(line) else {
         return Err(Refusal::Malformed);

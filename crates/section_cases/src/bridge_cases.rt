@@ -28,7 +28,7 @@ fn entries(rt: HostRuntime) -> Result<(), Fail> {
     for (r, won) in [(0, 0), (15_000, 24), (-15_000, -24)] {
         assert_eq!(rt; gains::<Bridge>(r)?, (won, 0i32.wrapping_sub(won)));
     }
-    let mut s: Bridge = Bridge::blank();
+    let mut s = Bridge::blank();
     for (a, b, r, want) in [
         (4, 5, 15_010, (6, 1, 4)),
         (4, 5, -15_010, (6, 1, 4)),
@@ -48,7 +48,7 @@ fn entries(rt: HostRuntime) -> Result<(), Fail> {
 
 #[test]
 fn amounts(rt: HostRuntime) -> Result<(), Fail> {
-    let mut s: Bridge = Bridge::blank();
+    let mut s = Bridge::blank();
     for (line, amount, want) in [
         (7, 0, (6, 3, 7)),
         (7, 1_001, (6, 3, 7)),

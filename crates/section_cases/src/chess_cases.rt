@@ -7,7 +7,7 @@ fn entries(rt: HostRuntime) -> Result<(), Fail> {
     for (r, want) in [(2, (2, 0)), (1, (1, 1)), (0, (0, 2)), (3, (0, 0))] {
         assert_eq!(rt; gains::<Chess>(r)?, want);
     }
-    let mut s: Chess = Chess::blank();
+    let mut s = Chess::blank();
     for (a, b, r, want) in [
         (6, 9, 4, (6, 1, 6)),
         (6, 9, -1, (6, 1, 6)),

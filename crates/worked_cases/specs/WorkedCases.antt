@@ -1,5 +1,5 @@
 -- Ten worked cases of the rules, for chess, for bridge and for the token tree.
-use Rattle.std.specs.Prelude.{ℕ, ◌≤◌, ◌≡◌, List, [], ◌∷◌, ℤ, pos, neg_ℤ, set}
+use Rattle.std.specs.Prelude.{ℕ, ◌≤◌, ◌≡◌, List, [], ◌∷◌, ℤ, pos, neg_ℤ, slice_set}
 use Rattle.sections.specs.Rule.{Rule, admitted, blank_sheet, denied, entered, figure_at}
 use Rattle.sections.specs.Chess.{chess}
 use Rattle.sections.specs.Bridge.{bridge}
@@ -8,7 +8,7 @@ use Rattle.methods.specs.Tree.{tree_model}
 
 -- a sheet with one figure other than 0, at line 0
 abbrev pub line_zero_has : ℤ → List ℤ
-line_zero_has figure = set blank_sheet 0 figure
+line_zero_has figure = slice_set blank_sheet 0 figure
 
 -- an entry between lines 0 and 1 is admitted, and leaves that figure at line 0
 abbrev pub LeavesAtZero : Rule → List ℤ → (r : ℤ) → (figure : ℤ) → Type 0
