@@ -1,0 +1,109 @@
+ghost use Rattle.std.specs.Prelude.{◌≡◌, ◌+◌, ◌<◌, ◌≤◌, [], length, sum};
+ghost use Rattle.methods.specs.Deal.{new_round};
+ghost use Rattle.methods.specs.Split.{after_split, paid};
+ghost use Rattle.methods.specs.Swap.{exchange};
+ghost use Rattle.methods.specs.Tokens.{green, tokens_at};
+
+use crate::deal::{dealt_to, limit_of};
+use crate::split::split;
+use arrayvec::ArrayVec;
+
+// A round of the token tree: its limit, and the tokens of each station. At most 64 stations and 8,192 tokens.
+#[derive(Drop)]
+pub(crate) struct Round {
+    limit: u16,
+    tokens: ArrayVec<u16, 64>,
+    ghost small: { length tokens.items ≤ 64 },
+    ghost few: { sum tokens.items ≤ 8192 },
+}
+
+impl Round {
+    ghost use Rattle.methods.specs.Held.{held};
+
+    // A round of no stations.
+    pub(crate) fn none() -> Round
+        ensures { held result ≡ record { limit = 0; tokens = [] } }
+    {
+        Round {
+            limit: 0,
+            tokens: ArrayVec::new(),
+        }
+    }
+
+    // Deals `total` tokens over `n` stations, the same to each and one more to the first ones.
+    pub(crate) fn dealt(n: usize, total: u16) -> Round
+        requires some { 1 ≤ n }
+        requires small { n ≤ 64 }
+        requires few { total ≤ 8192 }
+        ensures { held result ≡ new_round n total }
+    {
+        let mut tokens = ArrayVec::new();
+        for i in 0..n {
+            tokens.push(dealt_to(n as u16, total, i));
+        }
+        Round {
+            limit: limit_of(n as u16, total),
+            tokens,
+        }
+    }
+
+    pub(crate) fn stations(&self) -> usize
+        ensures count { result ≡ length (held self.now).tokens }
+        ensures small { result ≤ 64 }
+    {
+        self.tokens.len()
+    }
+
+    // How many tokens a station has; one that is not counted has none.
+    pub(crate) fn tokens_of(&self, i: usize) -> u16
+        ensures { result ≡ tokens_at (held self.now).tokens i }
+    {
+        self.tokens.get(i).copied().unwrap_or(0)
+    }
+
+    // Whether a station is green: it has more than half of the limit.
+    pub(crate) fn is_green(&self, i: usize) -> bool
+        ensures { result ≡ green (held self.now).limit (tokens_at (held self.now).tokens i) }
+    {
+        2 * u32::from(self.tokens_of(i)) > u32::from(self.limit)
+    }
+
+    // The tokens of all stations together.
+    pub(crate) fn total(&self) -> u32
+        ensures sum { result ≡ sum (held self.now).tokens }
+        ensures few { result ≤ 8192 }
+    {
+        self.tokens.iter().map(|t| u32::from(*t)).sum()
+    }
+
+    // Station `i` pays one token.
+    pub(crate) fn pay(&mut self, i: usize)
+        requires counted { i < length (held self.old).tokens }
+        requires has { 0 < tokens_at (held self.old).tokens i }
+        ensures { held self.new ≡ record { limit = (held self.old).limit; tokens = paid (held self.old).tokens i } }
+    {
+        self.tokens[i] -= 1;
+    }
+
+    // `giver` splits its tokens with `asker`, which has none.
+    pub(crate) fn share(&mut self, giver: usize, asker: usize)
+        requires above { giver < asker }
+        requires counted { asker < length (held self.old).tokens }
+        requires empty { tokens_at (held self.old).tokens asker ≡ 0 }
+        ensures { held self.new ≡ record { limit = (held self.old).limit; tokens = after_split (held self.old).tokens giver asker } }
+    {
+        let tokens = self.tokens.as_mut_slice();
+        let (asked, kept) = split(tokens[giver]);
+        tokens[giver] = kept;
+        tokens[asker] = asked;
+    }
+
+    // Stations `i` and `child` exchange their whole tokens.
+    pub(crate) fn exchange(&mut self, i: usize, child: usize)
+        requires above { i < child }
+        requires counted { child < length (held self.old).tokens }
+        ensures { held self.new ≡ record { limit = (held self.old).limit; tokens = exchange (held self.old).tokens i child } }
+    {
+        self.tokens.swap(i, child);
+    }
+}
