@@ -1,5 +1,7 @@
 ghost use Rattle.std.specs.Prelude.{◌<◌};
 
+use std::fmt;
+
 // Where the arrivals of a run come in.
 #[derive(Clone, Copy)]
 pub enum Pattern {
@@ -27,17 +29,6 @@ impl Pattern {
         Pattern::Scattered,
     ];
 
-    pub fn word(self) -> &'static str {
-        match self {
-            Pattern::Root => "root",
-            Pattern::Last => "last",
-            Pattern::Middle => "middle",
-            Pattern::Leaves => "leaves",
-            Pattern::Rotation => "rotation",
-            Pattern::Scattered => "scattered",
-        }
-    }
-
     // The station of arrival `k` among `n` stations; 0 where there is none.
     pub fn station(self, n: u32, k: u32) -> usize
         ensures { 0 < n → result < n }
@@ -55,5 +46,18 @@ impl Pattern {
             Pattern::Rotation => k % n,
             Pattern::Scattered => (k * 37 + 11) % n,
         }
+    }
+}
+
+impl fmt::Display for Pattern {
+    fn fmt<W: fmt::Write>(&self, f: &mut fmt::Formatter<W>) -> fmt::Result {
+        f.write_str(match self {
+            Pattern::Root => "root",
+            Pattern::Last => "last",
+            Pattern::Middle => "middle",
+            Pattern::Leaves => "leaves",
+            Pattern::Rotation => "rotation",
+            Pattern::Scattered => "scattered",
+        })
     }
 }

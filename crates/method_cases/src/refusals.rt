@@ -1,54 +1,72 @@
+use crate::named::Named;
 use methods::{Method, MethodRefusal};
-use std::io;
+use std::{fmt, io};
 
-fn tell(rt: &impl Print, answer: Result<u32, MethodRefusal>, left: u32) -> io::Result<()> {
-    match answer {
-        Ok(sent) => println!(rt; "ok {sent}, left {left}"),
-        Err(refusal) => {
-            let (number, cause, line) = refusal.code();
-            println!(rt; "no {number} {cause} {line}, left {left}")
+// A call of a counting method.
+#[derive(Clone, Copy)]
+enum Call {
+    Begin(usize, i64),
+    Arrived(usize),
+}
+
+impl fmt::Display for Call {
+    fn fmt<W: fmt::Write>(&self, f: &mut fmt::Formatter<W>) -> fmt::Result {
+        match self {
+            Call::Begin(n, w) => write!(f, "begin {n} {w}"),
+            Call::Arrived(station) => write!(f, "arrived {station}"),
         }
     }
 }
 
-fn begin<M: Method>(
-    rt: &impl Print,
-    word: &str,
-    method: &mut M,
-    n: usize,
-    w: i64,
-) -> io::Result<()> {
-    print!(rt; "{word} begin {n} {w}: ")?;
-    let answer = method.begin(n, w);
-    tell(rt, answer, method.outstanding())
+impl Call {
+    fn of<M: Method>(self, method: &mut M) -> Result<u32, MethodRefusal> {
+        match self {
+            Call::Begin(n, w) => method.begin(n, w),
+            Call::Arrived(station) => method.arrived(station),
+        }
+    }
 }
 
-fn arrived<M: Method>(
-    rt: &impl Print,
-    word: &str,
-    method: &mut M,
-    station: usize,
-) -> io::Result<()> {
-    print!(rt; "{word} arrived {station}: ")?;
-    let answer = method.arrived(station);
-    tell(rt, answer, method.outstanding())
-}
+// Every refusal, and calls after which the method must go on as if those had not been made.
+const CALLS: [Call; 23] = [
+    Call::Arrived(0),
+    Call::Begin(0, 5),
+    Call::Begin(65, 5),
+    Call::Begin(3, -1),
+    Call::Begin(3, 8193),
+    Call::Begin(0, -1),
+    Call::Begin(3, 2),
+    Call::Begin(3, 5),
+    Call::Begin(3, 0),
+    Call::Begin(0, 5),
+    Call::Begin(65, 0),
+    Call::Arrived(3),
+    Call::Arrived(64),
+    Call::Arrived(2),
+    Call::Arrived(3),
+    Call::Arrived(1),
+    Call::Arrived(0),
+    Call::Arrived(3),
+    Call::Arrived(0),
+    Call::Begin(64, 0),
+    Call::Begin(64, 8192),
+    Call::Begin(1, 1),
+    Call::Arrived(64),
+];
 
-// Every refusal, and that the method goes on as if it had not been called.
-pub fn all<M: Method + Drop>(rt: &impl Print, word: &str) -> io::Result<()> {
+pub fn all<M: Named>(rt: &impl Print) -> io::Result<()> {
+    let word = M::WORD;
     let mut method = M::fresh();
-    arrived(rt, word, &mut method, 0)?;
-    for (n, w) in [(0, 5), (65, 5), (3, -1), (3, 8193), (0, -1), (3, 2)] {
-        begin(rt, word, &mut method, n, w)?;
+    for call in CALLS {
+        let answer = call.of(&mut method);
+        let left = method.outstanding();
+        match answer {
+            Ok(sent) => println!(rt; "{word} {call}: ok {sent}, left {left}")?,
+            Err(refusal) => {
+                let (number, cause, line) = refusal.code();
+                println!(rt; "{word} {call}: no {number} {cause} {line}, left {left}")?;
+            }
+        }
     }
-    for (n, w) in [(3, 5), (3, 0), (0, 5), (65, 0)] {
-        begin(rt, word, &mut method, n, w)?;
-    }
-    for station in [3, 64, 2, 3, 1, 0, 3, 0] {
-        arrived(rt, word, &mut method, station)?;
-    }
-    for (n, w) in [(64, 0), (64, 8192), (1, 1)] {
-        begin(rt, word, &mut method, n, w)?;
-    }
-    arrived(rt, word, &mut method, 64)
+    Ok(())
 }

@@ -25,8 +25,8 @@ fn trace(rt: &impl Print, n: usize, w: i64, stations: &[usize]) -> io::Result<()
         Err(_) => return println!(rt; "trace begin {n} {w}: refused"),
     }
     tell_tokens(rt, &tree, n)?;
-    for station in stations {
-        match tree.arrived(*station) {
+    for &station in stations {
+        match tree.arrived(station) {
             Ok(sent) => print!(rt; "  at {station}: {sent}, ")?,
             Err(_) => print!(rt; "  at {station}: refused, ")?,
         }
