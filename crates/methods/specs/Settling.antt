@@ -1,6 +1,6 @@
 -- What follows when a station went from green to yellow keeps the sum of tokens, and leaves the root green.
 use Rattle.std.specs.Prelude.{◌≡◌, ℕ, ◌+◌, ◌-◌, ◌*◌, ◌<◌, ◌≤◌, true, false, not, ◌&&◌, List, length, sum, ◌==◌}
-use Rattle.std.proofs.Common.{ap, sym, ◌∙◌, subst, ⊎_elim, arith}
+use Rattle.std.proofs.Common.{◌∙◌, subst, ⊎_elim, arith}
 use Rattle.std.proofs.lemmas.Bool.{and_cases, cases_eq, cond_both, eqb-false, ltb-true, not-false}
 use Rattle.methods.specs.Tokens.{green, tokens_at}
 use Rattle.methods.specs.Swap.{Offers, turned}
@@ -61,9 +61,3 @@ settled_keeps limit ts i p =
       few = omega (arith, r.few, k.long);
     })
     (λ e. record { total = k.total; long = k.long; rooted = λ some root. root_after limit ts i o k e root; few = omega arith })
-
--- offers leave as many tokens at as many stations
-pub offers_total : (limit : ℕ) (ts : List ℕ) (i : ℕ) (o : Offers) → i < length ts → turned (length ts) limit ts i ≡ o → (sum o.tokens ≡ sum ts) × (length o.tokens ≡ length ts)
-offers_total limit ts i o p e =
-    let k = turned_keeps (length ts) limit ts i p in
-    (ap (λ x. sum x.tokens) (sym e) ∙ k.total, ap (λ x. length x.tokens) (sym e) ∙ k.long)

@@ -59,7 +59,7 @@ exchange_above ts i c j l m =
     let ne' : j ≢ i = omega arith in
     get_or-set_other (slice_set ts i (tokens_at ts c)) c j (tokens_at ts i) 0 ne ∙ get_or-set_other ts i j (tokens_at ts c) 0 ne'
 
-pub exchange_long : (ts : List ℕ) (i c : ℕ) → length (exchange ts i c) ≡ length ts
+exchange_long : (ts : List ℕ) (i c : ℕ) → length (exchange ts i c) ≡ length ts
 exchange_long ts i c = simp length-set
 
 pub exchange_total : (ts : List ℕ) (i c : ℕ) → i < length ts → c < length ts → i ≢ c → sum (exchange ts i c) ≡ sum ts

@@ -1,18 +1,11 @@
-use Rattle.std.proofs.Common.{◌≢◌, length, sum, ap, arith}
-use Rattle.methods.specs.Arriving.{split_long, split_total}
+use Rattle.std.proofs.Common.{◌≢◌, sum, ap, arith}
+use Rattle.methods.specs.Arriving.{split_total}
 use Rattle.methods.proofs.Written.{written_split}
 use Rattle.methods.proofs.round.Round.share.Goals as goal
 
-pub invariant_of-self : goal.invariant_of-self
-invariant_of-self c =
+pub invariant_of-self-clause-few : goal.invariant_of-self-clause-few
+invariant_of-self-clause-few c =
     let v = c.args.self.now.tokens in
     let ne : c.args.giver ≢ c.args.asker = omega arith in
     let e = written_split v c.as_mut_slice-tokens.result.now c.args.giver c.args.asker c.split-asked.result c.as_mut_slice-tokens.ensures.value c.split-asked.ensures in
-    record {
-      small = omega (arith, ap length e, split_long v.items c.args.giver c.args.asker);
-      few = omega (arith, ap sum e, split_total v.items c.args.giver c.args.asker (omega arith) (omega arith) ne (omega arith));
-    }
-
-pub returns : goal.returns
-returns c =
-    rw (written_split c.args.self.now.tokens c.as_mut_slice-tokens.result.now c.args.giver c.args.asker c.split-asked.result c.as_mut_slice-tokens.ensures.value c.split-asked.ensures)
+    omega (arith, ap sum e, split_total v.items c.args.giver c.args.asker (omega arith) (omega arith) ne (omega arith))
