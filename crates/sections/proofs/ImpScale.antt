@@ -45,10 +45,3 @@ imps_lost r won s h = rw (s.is, h, s.value) (ap (λ z. Some (neg_ℤ (pos (passe
 
 pub imps_won : (r won : ℤ) → Scaled r won → lt_z r (pos 0) ≡ false → ◌≡◌ {A = Option (ℤ × ℤ)} (Some (won, neg_ℤ won)) (both_imps r)
 imps_won r won s h = rw (s.is, h, s.value)
-
-pub bridge_entry_lem : (f : List ℤ) (a b : ℕ) (r : ℤ) → bridge_entry f a b r ≡ pair_entry f a b (both_imps r)
-bridge_entry_lem f a b r = go (is_difference r) refl
-  where
-    go : (t : Bool) → is_difference r ≡ t → bridge_entry f a b r ≡ pair_entry f a b (both_imps r)
-    go true p = rw p
-    go false p = rw p

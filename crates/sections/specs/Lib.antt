@@ -2,6 +2,9 @@ pub mod Rule
 pub mod Codes
 pub mod Did
 pub mod Judged
+pub mod Scored
 pub mod Chess
+pub mod ChessPlays
 pub mod Bridge
+pub mod BridgePlays
 pub mod Sums

@@ -1,4 +1,4 @@
-ghost use Rattle.std.specs.Prelude.{◌≡◌, ◌<◌, ◌≤◌, true, false, length, ℤ, ◌+ℤ◌, ◌-ℤ◌, MatchResult, slice_set};
+ghost use Rattle.std.specs.Prelude.{◌≡◌, ◌<◌, ◌≤◌, true, false, length, ℤ, ◌+ℤ◌, MatchResult, slice_set};
 ghost use Rattle.sections.specs.Rule.{Within, admits, blank_sheet, figure_at, entered};
 ghost use Rattle.sections.specs.Codes.{fault_code, verdict_code};
 ghost use Rattle.sections.specs.Judged.{is_figure, pair_gain, pair_gains, pair_entry};
@@ -55,13 +55,6 @@ impl Figures {
         ensures { MatchResult result (λ _. (is_figure (figure_at self.old.values line.number +ℤ by) ≡ true) × (self.new.values ≡ slice_set self.old.values line.number (figure_at self.old.values line.number +ℤ by))) (λ f. (is_figure (figure_at self.old.values line.number +ℤ by) ≡ false) × (fault_code f ≡ (6, 2, line.number)) × (self.new ≡ self.old)) }
     {
         self.put(line, i64::from(self.at(line)) + i64::from(by))
-    }
-
-    // Takes from the figure of a line, where it stays in the range.
-    pub(crate) fn subtract(&mut self, line: Line, by: i32) -> Result<(), Fault>
-        ensures { MatchResult result (λ _. (is_figure (figure_at self.old.values line.number -ℤ by) ≡ true) × (self.new.values ≡ slice_set self.old.values line.number (figure_at self.old.values line.number -ℤ by))) (λ f. (is_figure (figure_at self.old.values line.number -ℤ by) ≡ false) × (fault_code f ≡ (6, 2, line.number)) × (self.new ≡ self.old)) }
-    {
-        self.put(line, i64::from(self.at(line)) - i64::from(by))
     }
 
     // Adds to the figures of two lines, where both stay in the range.

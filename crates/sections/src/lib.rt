@@ -9,7 +9,9 @@ mod figures;
 mod imps;
 mod line;
 mod pair;
+pub mod scoring;
 pub mod section;
+pub mod sheet;
 pub mod sums;
 
 pub use bridge::Bridge;
@@ -17,5 +19,7 @@ pub use bridge_rule::carries_bridge_rule;
 pub use chess::Chess;
 pub use chess_rule::carries_chess_rule;
 pub use fault::{Cause, Fault};
+pub use scoring::Scoring;
 pub use section::Section;
+pub use sheet::Sheet;
 pub use sums::line_sum;

@@ -1,0 +1,58 @@
+ghost use Rattle.std.proofs.Common.{rules};
+
+use crate::fault::{Cause, Fault};
+use crate::figures::Figures;
+use crate::line::Line;
+use crate::scoring::Scoring;
+use crate::section::Section;
+use std::marker::PhantomData;
+
+// A sheet of points of one kind of scoring.
+#[derive(Clone, Copy)]
+pub struct Sheet<K: Scoring> {
+    figures: Figures,
+    scoring: PhantomData<K>,
+}
+
+impl<K: Scoring> Section for Sheet<K> {
+    ghost figures = { λ s. s.figures.values };
+
+    ghost rule = { K.rule };
+
+    ghost lines = { Prim.search rules };
+
+    ghost bounded = { Prim.search rules };
+
+    ghost lawful = { K.lawful };
+
+    fn blank() -> Self {
+        Sheet {
+            figures: Figures::zero(),
+            scoring: PhantomData,
+        }
+    }
+
+    fn enter(&mut self, a: u32, b: u32, r: i32) -> Result<(), Fault> {
+        self.figures.enter(a, b, K::gains(r))
+    }
+
+    fn debit(&mut self, line: u32, amount: i32) -> Result<(), Fault> {
+        let at = Line::of_amount(line, K::is_amount(amount))?;
+        if !K::covers(self.figures.at(at), amount) {
+            return Err(Fault {
+                cause: Cause::TooLittle,
+                line,
+            });
+        }
+        self.figures.add(at, -amount)
+    }
+
+    fn credit(&mut self, line: u32, amount: i32) -> Result<(), Fault> {
+        let at = Line::of_amount(line, K::is_amount(amount))?;
+        self.figures.add(at, amount)
+    }
+
+    fn figure(&self, line: u32) -> Result<i32, Fault> {
+        self.figures.figure(line)
+    }
+}
