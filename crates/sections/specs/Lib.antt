@@ -3,6 +3,7 @@ pub mod Codes
 pub mod Did
 pub mod Judged
 pub mod Scored
+pub mod Sheet
 pub mod Chess
 pub mod ChessPlays
 pub mod Bridge

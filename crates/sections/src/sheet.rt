@@ -1,5 +1,3 @@
-ghost use Rattle.std.proofs.Common.{rules};
-
 use crate::fault::{Cause, Fault};
 use crate::figures::Figures;
 use crate::line::Line;
@@ -15,7 +13,10 @@ pub struct Sheet<K: Scoring> {
 }
 
 impl<K: Scoring> Section for Sheet<K> {
-    ghost figures = { λ s. s.figures.values };
+    ghost use Rattle.sections.specs.Sheet.{figures_of};
+    ghost use Rattle.std.proofs.Common.{rules};
+
+    ghost figures = { figures_of };
 
     ghost rule = { K.rule };
 
