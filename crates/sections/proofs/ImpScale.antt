@@ -3,8 +3,7 @@ use Rattle.std.proofs.Common.{◌≡◌, ℕ, ◌%◌, ◌≤◌, Bool, true, fa
 use lib.Signed.{lt_z}
 use Rattle.std.proofs.lemmas.Int.{ints}
 use Rattle.std.proofs.lemmas.Bool.Decides.{nat_tests}
-use Rattle.sections.specs.Judged.{pair_entry}
-use Rattle.sections.specs.Bridge.{bridge_entry, is_difference, both_imps, scale, passed, limits}
+use Rattle.sections.specs.Bridge.{is_difference, both_imps, scale, passed, limits}
 
 passed_few : (ls : List ℕ) (size : ℕ) → passed ls size ≤ length ls
 passed_few [] size = omega arith

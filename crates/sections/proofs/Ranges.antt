@@ -16,13 +16,10 @@ within_zeros n zero k = (omega (arith, ints), omega (arith, ints))
 within_zeros n (suc m) zero = (omega (arith, ints), omega (arith, ints))
 within_zeros n (suc m) (suc k) = within_zeros n m k
 
-pub figure_yes : (z : ℤ) → neg_ℤ (pos 20000) ≤ℤ z → z ≤ℤ pos 20000 → is_figure z ≡ true
-figure_yes z low high = grind (arith, ints)
-
-figure_low : (z : ℤ) → is_figure z ≡ true → neg_ℤ (pos 20000) ≤ℤ z
+pub figure_low : (z : ℤ) → is_figure z ≡ true → neg_ℤ (pos 20000) ≤ℤ z
 figure_low z h = grind (arith, ints)
 
-figure_high : (z : ℤ) → is_figure z ≡ true → z ≤ℤ pos 20000
+pub figure_high : (z : ℤ) → is_figure z ≡ true → z ≤ℤ pos 20000
 figure_high z h = grind (arith, ints)
 
 -- a figure in the range may stand in the place of another

@@ -1,7 +1,7 @@
 -- A sheet that gives IMPs plays the rule of bridge.
-use Rattle.std.proofs.Common.{◌≡◌, ℕ, Bool, true, false, List, ℤ, pos, ◌+ℤ◌, ◌-ℤ◌, neg_ℤ, refl, arith}
+use Rattle.std.proofs.Common.{◌≡◌, ℕ, Bool, true, false, List, ℤ, refl, arith}
 use Rattle.std.proofs.lemmas.Int.{ints}
-use Rattle.sections.specs.Judged.{is_figure, pair_entry}
+use Rattle.sections.specs.Judged.{pair_entry}
 use Rattle.sections.specs.Scored.{Plays, AmountsAreSmall}
 use Rattle.sections.specs.Bridge.{bridge, bridge_entry, is_amount, is_difference, both_imps}
 

@@ -34,7 +34,7 @@ impl Scoring for BridgeScoring {
     }
 
     fn is_amount(amount: i32) -> bool {
-        amount != 0 && amount >= -1_000 && amount <= 1_000
+        amount != 0 && (-1_000..=1_000).contains(&amount)
     }
 
     fn covers(_figure: i32, _amount: i32) -> bool {

@@ -7,5 +7,4 @@ use crate::section::Section;
 // The rule that the section Bridge carries is the rule of bridge, and no other that would keep the interface.
 pub fn carries_bridge_rule()
     ensures { ⟦<Bridge as Section>⟧.rule ≡ bridge }
-{
-}
+{}

@@ -3,6 +3,7 @@ ghost use Rattle.sections.specs.Chess.{chess, half_points, is_amount};
 ghost use Rattle.sections.specs.ChessPlays.{chess_plays, chess_amounts};
 ghost use Rattle.std.proofs.Common.{rules};
 
+use crate::game::Game;
 use crate::scoring::Scoring;
 use crate::sheet::Sheet;
 
@@ -29,17 +30,12 @@ impl Scoring for ChessScoring {
     ghost small = { chess_amounts };
 
     fn gains(r: i32) -> Option<(i32, i32)> {
-        match r {
-            2 => Some((2, 0)),
-            1 => Some((1, 1)),
-            0 => Some((0, 2)),
-            3 => Some((0, 0)),
-            _ => None,
-        }
+        let game = Game::try_from(r).ok()?;
+        Some(game.half_points())
     }
 
     fn is_amount(amount: i32) -> bool {
-        amount >= 1 && amount <= 1_000
+        (1..=1_000).contains(&amount)
     }
 
     fn covers(figure: i32, amount: i32) -> bool {

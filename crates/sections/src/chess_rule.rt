@@ -7,5 +7,4 @@ use crate::section::Section;
 // The rule that the section Chess carries is the rule of chess, and no other that would keep the interface.
 pub fn carries_chess_rule()
     ensures { ⟦<Chess as Section>⟧.rule ≡ chess }
-{
-}
+{}

@@ -1,6 +1,7 @@
 ghost use Rattle.std.specs.Prelude.{◌≡◌, ◌<◌, ◌≤◌, true, false, length, ℤ, ◌+ℤ◌, MatchResult, slice_set};
 ghost use Rattle.sections.specs.Rule.{Within, admits, blank_sheet, figure_at, entered};
 ghost use Rattle.sections.specs.Codes.{fault_code, verdict_code};
+ghost use Rattle.sections.specs.Lines.{ReadsLine};
 ghost use Rattle.sections.specs.Judged.{is_figure, pair_gain, pair_gains, pair_entry};
 
 use crate::fault::{Cause, Fault};
@@ -30,7 +31,7 @@ impl Figures {
 
     // The figure of a line, where there is one.
     pub(crate) fn figure(&self, line: u32) -> Result<i32, Fault>
-        ensures { MatchResult result (λ v. (line < 32) × (v ≡ figure_at self.now.values line)) (λ f. (32 ≤ line) × (fault_code f ≡ (6, 9, line))) }
+        ensures { ReadsLine line result (λ v. v ≡ figure_at self.now.values line) }
     {
         let at = Line::new(line)?;
         Ok(self.at(at))
@@ -40,12 +41,10 @@ impl Figures {
     fn put(&mut self, line: Line, figure: i64) -> Result<(), Fault>
         ensures { MatchResult result (λ _. (is_figure figure ≡ true) × (self.new.values ≡ slice_set self.old.values line.number figure)) (λ f. (is_figure figure ≡ false) × (fault_code f ≡ (6, 2, line.number)) × (self.new ≡ self.old)) }
     {
-        if figure < -20_000 || figure > 20_000 {
-            return Err(Fault {
-                cause: Cause::OutOfRange,
-                line: line.number(),
-            });
+        if !(-20_000..=20_000).contains(&figure) {
+            return Err(Fault::new(Cause::OutOfRange, line.number()));
         }
+        // that the figure fits in 16 bits is proved of the cast; `try_from` would ask it a second time
         self.values[line.number() as usize] = figure as i16;
         Ok(())
     }
@@ -74,10 +73,7 @@ impl Figures {
     {
         let pair = Pair::new(a, b)?;
         let Some((first, second)) = gains else {
-            return Err(Fault {
-                cause: Cause::BadResult,
-                line: a,
-            });
+            return Err(Fault::new(Cause::BadResult, a));
         };
         self.add_pair(pair, first, second)
     }

@@ -1,3 +1,6 @@
+ghost use Rattle.std.specs.Prelude.{◌≡◌, ◌<◌, ◌≤◌, true, false, MatchResult};
+ghost use Rattle.sections.specs.Codes.{fault_code};
+
 use crate::fault::{Cause, Fault};
 use crate::figures::Figures;
 use crate::line::Line;
@@ -10,6 +13,19 @@ use std::marker::PhantomData;
 pub struct Sheet<K: Scoring> {
     figures: Figures,
     scoring: PhantomData<K>,
+}
+
+impl<K: Scoring> Sheet<K> {
+    // The line of a debit or a credit, whose amount a slip may carry.
+    fn line_of_amount(line: u32, amount: i32) -> Result<Line, Fault>
+        ensures { MatchResult result (λ l. (line < 32) × (K.is_amount amount ≡ true) × (l.number ≡ line)) (λ f. (line < 32 → (K.is_amount amount ≡ false) × (fault_code f ≡ (6, 3, line))) × (32 ≤ line → fault_code f ≡ (6, 9, line))) }
+    {
+        let at = Line::new(line)?;
+        if !K::is_amount(amount) {
+            return Err(Fault::new(Cause::BadAmount, line));
+        }
+        Ok(at)
+    }
 }
 
 impl<K: Scoring> Section for Sheet<K> {
@@ -38,18 +54,15 @@ impl<K: Scoring> Section for Sheet<K> {
     }
 
     fn debit(&mut self, line: u32, amount: i32) -> Result<(), Fault> {
-        let at = Line::of_amount(line, K::is_amount(amount))?;
+        let at = Self::line_of_amount(line, amount)?;
         if !K::covers(self.figures.at(at), amount) {
-            return Err(Fault {
-                cause: Cause::TooLittle,
-                line,
-            });
+            return Err(Fault::new(Cause::TooLittle, line));
         }
         self.figures.add(at, -amount)
     }
 
     fn credit(&mut self, line: u32, amount: i32) -> Result<(), Fault> {
-        let at = Line::of_amount(line, K::is_amount(amount))?;
+        let at = Self::line_of_amount(line, amount)?;
         self.figures.add(at, amount)
     }
 
