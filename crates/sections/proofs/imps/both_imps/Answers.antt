@@ -9,13 +9,6 @@ known c =
     let fr : SFits w32 c.args.r = c.ranges.r in
     scaled c.args.r c.in_ok-won.won (simp (c.unsigned_abs.ensures.value, to_z-of_z) at c.in_ok-won.ensures)
 
-pub overflow_sub-lost : goal.overflow_sub-lost
-overflow_sub-lost c =
-    let s = known c in
-    let l = scaled_low _ _ s in
-    let h = scaled_high _ _ s in
-    omega (arith, ints)
-
 pub returns-then-r-lt0 : goal.returns-then-r-lt0
 returns-then-r-lt0 c =
     let fr : SFits w32 c.args.r = c.ranges.r in
