@@ -6,6 +6,8 @@ mod bridge_cases;
 #[cfg(test)]
 mod chess_cases;
 #[cfg(test)]
+mod game_cases;
+#[cfg(test)]
 mod sum_cases;
 #[cfg(test)]
 mod told;
