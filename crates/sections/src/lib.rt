@@ -15,9 +15,9 @@ pub mod section;
 pub mod sheet;
 pub mod sums;
 
-pub use bridge::Bridge;
+pub use bridge::{Bridge, BridgeScoring};
 pub use bridge_rule::carries_bridge_rule;
-pub use chess::Chess;
+pub use chess::{Chess, ChessScoring};
 pub use chess_rule::carries_chess_rule;
 pub use fault::{Cause, Fault};
 pub use game::{Game, UnknownGame};
