@@ -23,11 +23,6 @@ impl Colour {
     pub fn differs(self, from: Colour) -> bool
         ensures { result ≡ differ self from }
     {
-        match (self, from) {
-            (Colour::White, Colour::White) => false,
-            (Colour::White, Colour::Red) => true,
-            (Colour::Red, Colour::White) => true,
-            (Colour::Red, Colour::Red) => false,
-        }
+        self != from
     }
 }

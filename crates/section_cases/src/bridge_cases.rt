@@ -4,29 +4,27 @@ use std::test::Fail;
 
 #[test]
 fn each_step_of_the_scale_from_both_sides(rt: HostRuntime) -> Result<(), Fail> {
-    let limits: [i32; 24] = [
+    let limits: [u16; 24] = [
         10, 40, 80, 120, 160, 210, 260, 310, 360, 420, 490, 590, 740, 890, 1090, 1290, 1490, 1740,
         1990, 2240, 2490, 2990, 3490, 3990,
     ];
-    let mut imps = 0i32;
-    for limit in limits {
-        let lost = 0i32.wrapping_sub(imps);
-        assert_eq!(rt; gains::<Bridge>(limit)?, (imps, lost));
-        assert_eq!(rt; gains::<Bridge>(0i32.wrapping_sub(limit))?, (lost, imps));
-        imps = imps.wrapping_add(1);
-        let more = 0i32.wrapping_sub(imps);
-        let past = limit.wrapping_add(10);
-        assert_eq!(rt; gains::<Bridge>(past)?, (imps, more));
-        assert_eq!(rt; gains::<Bridge>(0i32.wrapping_sub(past))?, (more, imps));
+    for (imps, limit) in (0u8..24).zip(limits) {
+        let imps = i32::from(imps);
+        let limit = i32::from(limit);
+        assert_eq!(rt; gains::<Bridge>(limit)?, (imps, -imps));
+        assert_eq!(rt; gains::<Bridge>(-limit)?, (-imps, imps));
+        let more = imps + 1;
+        let past = limit + 10;
+        assert_eq!(rt; gains::<Bridge>(past)?, (more, -more));
+        assert_eq!(rt; gains::<Bridge>(-past)?, (-more, more));
     }
-    assert_eq!(rt; imps, 24);
     Ok(())
 }
 
 #[test]
 fn entries(rt: HostRuntime) -> Result<(), Fail> {
-    for (r, won) in [(0, 0), (15_000, 24), (-15_000, -24)] {
-        assert_eq!(rt; gains::<Bridge>(r)?, (won, 0i32.wrapping_sub(won)));
+    for (r, want) in [(0, (0, 0)), (15_000, (24, -24)), (-15_000, (-24, 24))] {
+        assert_eq!(rt; gains::<Bridge>(r)?, want);
     }
     let mut s = Bridge::blank();
     for (a, b, r, want) in [

@@ -1,10 +1,13 @@
-// Cases of the two sections at the edges of their rules, as tables; each test is proved safe, and then run.
+// Cases of the two sections at the edges of their rules, as tables; each test is proved safe, and then run. Each section has
+// tests of its own: the tables are what they test, and their results and amounts differ.
 #![tactic(auto)]
 
 #[cfg(test)]
 mod bridge_cases;
 #[cfg(test)]
 mod chess_cases;
+#[cfg(test)]
+mod game_cases;
 #[cfg(test)]
 mod sum_cases;
 #[cfg(test)]

@@ -1,15 +1,12 @@
--- What an entry of two lines comes to, by what is known of its tests.
-use Rattle.std.proofs.Common.{◌≡◌, ℕ, Bool, true, false, List, ℤ, ◌+ℤ◌, Some, sym, refl}
+-- What is said of an entry, by what is said of its two new figures.
+use Rattle.std.proofs.Common.{◌≡◌, ℕ, Bool, true, false, List, ℤ, ◌+ℤ◌, Some, refl}
 use Rattle.sections.specs.Rule.{admits, good_lines, figure_at}
-use Rattle.sections.specs.Codes.{verdict_code}
-use Rattle.sections.specs.Judged.{is_figure, pair_entry}
+use Rattle.sections.specs.Judged.{figure_verdict, is_figure, pair_entry}
 
-pub pair_granted : (f : List ℤ) (a b : ℕ) (x y : ℤ) → good_lines a b ≡ true → is_figure (figure_at f a +ℤ x) ≡ true → is_figure (figure_at f b +ℤ y) ≡ true → admits (pair_entry f a b (Some (x, y))) ≡ true
-pair_granted f a b x y good p q = rw (good, p, q)
-
-pub pair_refused : (f : List ℤ) (a b : ℕ) (x y : ℤ) (code : ℕ × ℕ × ℕ) → good_lines a b ≡ true → (is_figure (figure_at f a +ℤ x) ≡ false → code ≡ (6, 2, a)) → (is_figure (figure_at f a +ℤ x) ≡ true → (is_figure (figure_at f b +ℤ y) ≡ false) × (code ≡ (6, 2, b))) → (admits (pair_entry f a b (Some (x, y))) ≡ false) × (verdict_code (pair_entry f a b (Some (x, y))) ≡ code)
-pair_refused f a b x y code good first second = go (is_figure (figure_at f a +ℤ x)) refl
+-- where the lines are good and the first new figure is in the range, the second decides
+pub pair_entry-second : (f : List ℤ) (a b : ℕ) (x y : ℤ) → good_lines a b ≡ true → admits (figure_verdict (figure_at f a +ℤ x) a) ≡ true → pair_entry f a b (Some (x, y)) ≡ figure_verdict (figure_at f b +ℤ y) b
+pair_entry-second f a b x y good first = go (is_figure (figure_at f a +ℤ x)) refl
   where
-    go : (t : Bool) → is_figure (figure_at f a +ℤ x) ≡ t → (admits (pair_entry f a b (Some (x, y))) ≡ false) × (verdict_code (pair_entry f a b (Some (x, y))) ≡ code)
-    go true p = let q = second p in rw (good, p, q.0) (refl, sym q.1)
-    go false p = rw (good, p) (refl, sym (first p))
+    go : (t : Bool) → is_figure (figure_at f a +ℤ x) ≡ t → pair_entry f a b (Some (x, y)) ≡ figure_verdict (figure_at f b +ℤ y) b
+    go true p = rw (good, p)
+    go false p = let contradicts = rw p at first in cc

@@ -1,10 +1,10 @@
--- The rule of a bridge entry, by what its difference gives the two lines.
-use Rattle.std.proofs.Common.{◌≡◌, ℕ, ◌%◌, ◌≤◌, Bool, true, false, cond, ◌&&◌, eqb, leb, List, [], ◌∷◌, length, ℤ, pos, negsuc, neg_ℤ, nat_abs, ◌≤ℤ◌, Some, None, Option, refl, ap, arith}
+-- The IMPs of a difference with its sign, by the scale of its size.
+use Rattle.std.proofs.Common.{◌≡◌, ℕ, ◌%◌, ◌≤◌, Bool, true, false, cond, ◌&&◌, eqb, leb, List, [], ◌∷◌, length, ℤ, pos, negsuc, neg_ℤ, nat_abs, ◌≤ℤ◌, Some, None, Option, refl, arith}
 use lib.Signed.{lt_z}
+use Rattle.std.specs.Option.{option_map}
 use Rattle.std.proofs.lemmas.Int.{ints}
 use Rattle.std.proofs.lemmas.Bool.Decides.{nat_tests}
-use Rattle.sections.specs.Judged.{pair_entry}
-use Rattle.sections.specs.Bridge.{bridge_entry, is_difference, both_imps, scale, passed, limits}
+use Rattle.sections.specs.Bridge.{is_difference, both_imps, scale, passed, limits}
 
 passed_few : (ls : List ℕ) (size : ℕ) → passed ls size ≤ length ls
 passed_few [] size = omega arith
@@ -15,40 +15,31 @@ size_of : (r : ℤ) → is_difference r ≡ (leb (nat_abs r) 15000 && eqb (nat_a
 size_of (pos n) = grind (arith, nat_tests)
 size_of (negsuc n) = grind (arith, nat_tests)
 
--- what the scale answers is the number of limits passed, and the difference is one
-pub record Scaled (r won : ℤ) : Type 0 where
-  pub is : is_difference r ≡ true
-  pub value : won ≡ pos (passed limits (nat_abs r))
-  pub few : passed limits (nat_abs r) ≤ 24
+-- the IMPs of a difference, by those of its size
+abbrev pub signed : (r won : ℤ) → ℤ
+signed r won = cond (lt_z r (pos 0)) (neg_ℤ won) won
 
-pub scaled : (r won : ℤ) → ◌≡◌ {A = Option ℤ} (Some won) (scale (nat_abs r)) → Scaled r won
-scaled r won e = go (leb (nat_abs r) 15000 && eqb (nat_abs r % 10) 0) refl e
+pub both_imps-scale : (r : ℤ) → both_imps r ≡ option_map (λ won. (signed r won, neg_ℤ (signed r won))) (scale (nat_abs r))
+both_imps-scale r = go (leb (nat_abs r) 15000 && eqb (nat_abs r % 10) 0) refl
   where
-    go : (t : Bool) → (leb (nat_abs r) 15000 && eqb (nat_abs r % 10) 0) ≡ t → ◌≡◌ {A = Option ℤ} (Some won) (cond t (Some (pos (passed limits (nat_abs r)))) None) → Scaled r won
-    go true p q = record { is = rw (size_of r) p; value = cc; few = passed_few limits (nat_abs r) }
-    go false p q = absurd (let z : ◌≡◌ {A = ℕ} 0 1 = cc in omega arith)
+    go : (t : Bool) → (leb (nat_abs r) 15000 && eqb (nat_abs r % 10) 0) ≡ t → both_imps r ≡ option_map (λ won. (signed r won, neg_ℤ (signed r won))) (scale (nat_abs r))
+    go true p = rw (size_of r, p)
+    go false p = rw (size_of r, p)
 
-pub scaled_low : (r won : ℤ) → Scaled r won → pos 0 ≤ℤ won
-scaled_low r won s = rw s.value (low (passed limits (nat_abs r)))
+-- the scale ends at 24
+pub scale_few : (size : ℕ) (won : ℤ) → ◌≡◌ {A = Option ℤ} (Some won) (scale size) → (pos 0 ≤ℤ won) × (won ≤ℤ pos 24)
+scale_few size won e = go (leb size 15000 && eqb (size % 10) 0) refl e
   where
-    low : (n : ℕ) → pos 0 ≤ℤ pos n
-    low n = omega (arith, ints)
+    bounds : (n : ℕ) → n ≤ 24 → won ≡ pos n → (pos 0 ≤ℤ won) × (won ≤ℤ pos 24)
+    bounds n few is = (omega (arith, ints), omega (arith, ints))
 
-pub scaled_high : (r won : ℤ) → Scaled r won → won ≤ℤ pos 24
-scaled_high r won s = rw s.value (high (passed limits (nat_abs r)) s.few)
+    go : (t : Bool) → (leb size 15000 && eqb (size % 10) 0) ≡ t → ◌≡◌ {A = Option ℤ} (Some won) (cond t (Some (pos (passed limits size))) None) → (pos 0 ≤ℤ won) × (won ≤ℤ pos 24)
+    go true p q = bounds (passed limits size) (passed_few limits size) cc
+    go false p q = absurd cc
+
+pub signed_few : (r won : ℤ) → pos 0 ≤ℤ won → won ≤ℤ pos 24 → (neg_ℤ (pos 24) ≤ℤ signed r won) × (signed r won ≤ℤ pos 24)
+signed_few r won low high = go (lt_z r (pos 0))
   where
-    high : (n : ℕ) → n ≤ 24 → pos n ≤ℤ pos 24
-    high n h = omega (arith, ints)
-
-pub imps_lost : (r won : ℤ) → Scaled r won → lt_z r (pos 0) ≡ true → ◌≡◌ {A = Option (ℤ × ℤ)} (Some (neg_ℤ won, won)) (both_imps r)
-imps_lost r won s h = rw (s.is, h, s.value) (ap (λ z. Some (neg_ℤ (pos (passed limits (nat_abs r))), z)) (omega (arith, ints)))
-
-pub imps_won : (r won : ℤ) → Scaled r won → lt_z r (pos 0) ≡ false → ◌≡◌ {A = Option (ℤ × ℤ)} (Some (won, neg_ℤ won)) (both_imps r)
-imps_won r won s h = rw (s.is, h, s.value)
-
-pub bridge_entry_lem : (f : List ℤ) (a b : ℕ) (r : ℤ) → bridge_entry f a b r ≡ pair_entry f a b (both_imps r)
-bridge_entry_lem f a b r = go (is_difference r) refl
-  where
-    go : (t : Bool) → is_difference r ≡ t → bridge_entry f a b r ≡ pair_entry f a b (both_imps r)
-    go true p = rw p
-    go false p = rw p
+    go : (t : Bool) → (neg_ℤ (pos 24) ≤ℤ cond t (neg_ℤ won) won) × (cond t (neg_ℤ won) won ≤ℤ pos 24)
+    go true = (omega (arith, ints), omega (arith, ints))
+    go false = (omega (arith, ints), omega (arith, ints))

@@ -1,5 +1,4 @@
 pub mod Ranges
 pub mod Gains
 pub mod Entries
-pub mod HalfPoints
 pub mod ImpScale

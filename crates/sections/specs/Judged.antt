@@ -23,6 +23,10 @@ between low high z = int_le low z && int_le z high
 abbrev pub is_figure : ℤ → Bool
 is_figure z = between (neg_ℤ (pos 20000)) (pos 20000) z
 
+-- what is said of a new figure of a line
+abbrev pub figure_verdict : (figure : ℤ) (line : ℕ) → Verdict
+figure_verdict figure line = judged (test (is_figure figure) 2 line ∷ [])
+
 -- x for line a, y for line b, nothing for the others
 abbrev pub pair_gain : (a b : ℕ) (x y : ℤ) → (line : ℕ) → ℤ
 pair_gain a b x y line = cond (line == a) x (cond (line == b) y (pos 0))

@@ -1,7 +1,13 @@
 pub mod Rule
 pub mod Codes
+pub mod Lines
 pub mod Did
 pub mod Judged
+pub mod Scored
+pub mod Sheet
 pub mod Chess
+pub mod Game
+pub mod ChessPlays
 pub mod Bridge
+pub mod BridgePlays
 pub mod Sums

@@ -1,57 +1,43 @@
-ghost use Rattle.std.specs.Prelude.{◌≡◌};
-ghost use Rattle.sections.specs.Bridge.{bridge, is_amount};
+ghost use Rattle.std.specs.Prelude.{◌≡◌, true};
+ghost use Rattle.sections.specs.Bridge.{bridge, both_imps, is_amount};
+ghost use Rattle.sections.specs.BridgePlays.{bridge_plays, bridge_amounts};
 ghost use Rattle.std.proofs.Common.{rules};
 
-use crate::fault::Fault;
-use crate::figures::Figures;
 use crate::imps::both_imps;
-use crate::line::Line;
-use crate::section::Section;
+use crate::scoring::Scoring;
+use crate::sheet::Sheet;
 
 // A sheet of IMPs.
+pub type Bridge = Sheet<BridgeScoring>;
+
+// The scoring of bridge: IMPs may be owed, so that every figure covers every debit.
 #[derive(Clone, Copy)]
-pub struct Bridge {
-    figures: Figures,
-}
+pub struct BridgeScoring;
 
-fn is_amount(amount: i32) -> bool
-    ensures { result ≡ is_amount amount }
-{
-    amount != 0 && amount >= -1_000 && amount <= 1_000
-}
-
-impl Section for Bridge {
-    ghost figures = { λ s. s.figures.values };
-
+impl Scoring for BridgeScoring {
     ghost rule = { bridge };
 
-    ghost lines = { Prim.search rules };
+    ghost gains = { both_imps };
 
-    ghost bounded = { Prim.search rules };
+    ghost is_amount = { is_amount };
+
+    ghost covers = { λ figure amount. true };
 
     ghost lawful = { Prim.search rules };
 
-    fn blank() -> Bridge {
-        Bridge {
-            figures: Figures::zero(),
-        }
+    ghost plays = { bridge_plays };
+
+    ghost small = { bridge_amounts };
+
+    fn gains(r: i32) -> Option<(i32, i32)> {
+        both_imps(r)
     }
 
-    fn enter(&mut self, a: u32, b: u32, r: i32) -> Result<(), Fault> {
-        self.figures.enter(a, b, both_imps(r))
+    fn is_amount(amount: i32) -> bool {
+        amount != 0 && (-1_000..=1_000).contains(&amount)
     }
 
-    fn debit(&mut self, line: u32, amount: i32) -> Result<(), Fault> {
-        let at = Line::of_amount(line, is_amount(amount))?;
-        self.figures.subtract(at, amount)
-    }
-
-    fn credit(&mut self, line: u32, amount: i32) -> Result<(), Fault> {
-        let at = Line::of_amount(line, is_amount(amount))?;
-        self.figures.add(at, amount)
-    }
-
-    fn figure(&self, line: u32) -> Result<i32, Fault> {
-        self.figures.figure(line)
+    fn covers(_figure: i32, _amount: i32) -> bool {
+        true
     }
 }

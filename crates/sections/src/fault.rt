@@ -23,11 +23,11 @@ pub struct Fault {
     pub line: u32,
 }
 
-impl Cause {
-    pub fn number(self) -> u8
-        ensures { result ≡ cause_number self }
-    {
-        match self {
+impl From<Cause> for u8 {
+    ghost from_gives = { λ cause number. number ≡ cause_number cause };
+
+    fn from(cause: Cause) -> u8 {
+        match cause {
             Cause::BadResult => 1,
             Cause::OutOfRange => 2,
             Cause::BadAmount => 3,
@@ -38,10 +38,16 @@ impl Cause {
 }
 
 impl Fault {
+    pub(crate) fn new(cause: Cause, line: u32) -> Fault
+        ensures { result ≡ record { cause = cause; line = line } }
+    {
+        Fault { cause, line }
+    }
+
     // Number, cause and line, as a refusal is told.
     pub fn code(self) -> (u8, u8, u32)
         ensures { result ≡ fault_code self }
     {
-        (6, self.cause.number(), self.line)
+        (6, u8::from(self.cause), self.line)
     }
 }

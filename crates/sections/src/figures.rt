@@ -1,7 +1,8 @@
-ghost use Rattle.std.specs.Prelude.{◌≡◌, ◌<◌, ◌≤◌, true, false, length, ℤ, ◌+ℤ◌, ◌-ℤ◌, MatchResult, slice_set};
-ghost use Rattle.sections.specs.Rule.{Within, admits, blank_sheet, figure_at, entered};
-ghost use Rattle.sections.specs.Codes.{fault_code, verdict_code};
-ghost use Rattle.sections.specs.Judged.{is_figure, pair_gain, pair_gains, pair_entry};
+ghost use Rattle.std.specs.Prelude.{◌≡◌, length, ◌+ℤ◌, Some, slice_set};
+ghost use Rattle.sections.specs.Rule.{Within, blank_sheet, figure_at, entered, credited};
+ghost use Rattle.sections.specs.Lines.{ReadsLine};
+ghost use Rattle.sections.specs.Did.{Did};
+ghost use Rattle.sections.specs.Judged.{figure_verdict, pair_gains, pair_entry};
 
 use crate::fault::{Cause, Fault};
 use crate::line::Line;
@@ -30,7 +31,7 @@ impl Figures {
 
     // The figure of a line, where there is one.
     pub(crate) fn figure(&self, line: u32) -> Result<i32, Fault>
-        ensures { MatchResult result (λ v. (line < 32) × (v ≡ figure_at self.now.values line)) (λ f. (32 ≤ line) × (fault_code f ≡ (6, 9, line))) }
+        ensures { ReadsLine line result (λ v. v ≡ figure_at self.now.values line) }
     {
         let at = Line::new(line)?;
         Ok(self.at(at))
@@ -38,35 +39,26 @@ impl Figures {
 
     // A new figure of a line, where it is in the range.
     fn put(&mut self, line: Line, figure: i64) -> Result<(), Fault>
-        ensures { MatchResult result (λ _. (is_figure figure ≡ true) × (self.new.values ≡ slice_set self.old.values line.number figure)) (λ f. (is_figure figure ≡ false) × (fault_code f ≡ (6, 2, line.number)) × (self.new ≡ self.old)) }
+        ensures { Did (λ s. s.values) (figure_verdict figure line.number) (slice_set self.old.values line.number figure) self.old self.new result }
     {
-        if figure < -20_000 || figure > 20_000 {
-            return Err(Fault {
-                cause: Cause::OutOfRange,
-                line: line.number(),
-            });
+        if !(-20_000..=20_000).contains(&figure) {
+            return Err(Fault::new(Cause::OutOfRange, line.number()));
         }
+        // that the figure fits in 16 bits is proved of the cast; `try_from` would ask it a second time
         self.values[line.number() as usize] = figure as i16;
         Ok(())
     }
 
     // Adds to the figure of a line, where it stays in the range.
     pub(crate) fn add(&mut self, line: Line, by: i32) -> Result<(), Fault>
-        ensures { MatchResult result (λ _. (is_figure (figure_at self.old.values line.number +ℤ by) ≡ true) × (self.new.values ≡ slice_set self.old.values line.number (figure_at self.old.values line.number +ℤ by))) (λ f. (is_figure (figure_at self.old.values line.number +ℤ by) ≡ false) × (fault_code f ≡ (6, 2, line.number)) × (self.new ≡ self.old)) }
+        ensures { Did (λ s. s.values) (figure_verdict (figure_at self.old.values line.number +ℤ by) line.number) (credited self.old.values line.number by) self.old self.new result }
     {
         self.put(line, i64::from(self.at(line)) + i64::from(by))
     }
 
-    // Takes from the figure of a line, where it stays in the range.
-    pub(crate) fn subtract(&mut self, line: Line, by: i32) -> Result<(), Fault>
-        ensures { MatchResult result (λ _. (is_figure (figure_at self.old.values line.number -ℤ by) ≡ true) × (self.new.values ≡ slice_set self.old.values line.number (figure_at self.old.values line.number -ℤ by))) (λ f. (is_figure (figure_at self.old.values line.number -ℤ by) ≡ false) × (fault_code f ≡ (6, 2, line.number)) × (self.new ≡ self.old)) }
-    {
-        self.put(line, i64::from(self.at(line)) - i64::from(by))
-    }
-
     // Adds to the figures of two lines, where both stay in the range.
     fn add_pair(&mut self, pair: Pair, x: i32, y: i32) -> Result<(), Fault>
-        ensures { MatchResult result (λ _. (is_figure (figure_at self.old.values pair.a.number +ℤ x) ≡ true) × (is_figure (figure_at self.old.values pair.b.number +ℤ y) ≡ true) × (self.new.values ≡ entered self.old.values (pair_gain pair.a.number pair.b.number x y))) (λ f. (is_figure (figure_at self.old.values pair.a.number +ℤ x) ≡ false → fault_code f ≡ (6, 2, pair.a.number)) × (is_figure (figure_at self.old.values pair.a.number +ℤ x) ≡ true → (is_figure (figure_at self.old.values pair.b.number +ℤ y) ≡ false) × (fault_code f ≡ (6, 2, pair.b.number))) × (self.new ≡ self.old)) }
+        ensures { Did (λ s. s.values) (pair_entry self.old.values pair.a.number pair.b.number (Some (x, y))) (entered self.old.values (pair_gains pair.a.number pair.b.number (Some (x, y)))) self.old self.new result }
     {
         let mut next = *self;
         next.add(pair.first(), x)?;
@@ -77,14 +69,11 @@ impl Figures {
 
     // An entry: each of two lines gains its part of the result, where there is one.
     pub(crate) fn enter(&mut self, a: u32, b: u32, gains: Option<(i32, i32)>) -> Result<(), Fault>
-        ensures { MatchResult result (λ _. (admits (pair_entry self.old.values a b gains) ≡ true) × (self.new.values ≡ entered self.old.values (pair_gains a b gains))) (λ f. (admits (pair_entry self.old.values a b gains) ≡ false) × (verdict_code (pair_entry self.old.values a b gains) ≡ fault_code f) × (self.new ≡ self.old)) }
+        ensures { Did (λ s. s.values) (pair_entry self.old.values a b gains) (entered self.old.values (pair_gains a b gains)) self.old self.new result }
     {
         let pair = Pair::new(a, b)?;
         let Some((first, second)) = gains else {
-            return Err(Fault {
-                cause: Cause::BadResult,
-                line: a,
-            });
+            return Err(Fault::new(Cause::BadResult, a));
         };
         self.add_pair(pair, first, second)
     }

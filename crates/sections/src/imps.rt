@@ -41,10 +41,6 @@ pub(crate) fn both_imps(r: i32) -> Option<(i32, i32)>
     ensures { result ≡ both_imps r }
 {
     let won = imps_of_size(r.unsigned_abs())?;
-    let lost = -won;
-    if r < 0 {
-        Some((lost, won))
-    } else {
-        Some((won, lost))
-    }
+    let gained = if r < 0 { -won } else { won };
+    Some((gained, -gained))
 }

@@ -17,10 +17,7 @@ impl Pair {
     pub(crate) fn new(a: u32, b: u32) -> Result<Pair, Fault>
         ensures { MatchResult result (λ p. (good_lines a b ≡ true) × (p.a.number ≡ a) × (p.b.number ≡ b)) (λ f. (good_lines a b ≡ false) × (fault_code f ≡ (6, 9, a))) }
     {
-        let fault = Fault {
-            cause: Cause::BadLines,
-            line: a,
-        };
+        let fault = Fault::new(Cause::BadLines, a);
         let first = Line::new(a)?;
         let Ok(second) = Line::new(b) else {
             return Err(fault);

@@ -1,6 +1,6 @@
-ghost use Rattle.std.specs.Prelude.{◌≡◌, ◌<◌, ◌≤◌, List, length, ℤ, MatchResult};
+ghost use Rattle.std.specs.Prelude.{◌≡◌, List, length, ℤ};
 ghost use Rattle.sections.specs.Rule.{Rule, Lawful, Within, blank_sheet, figure_at, entered, debited, credited};
-ghost use Rattle.sections.specs.Codes.{fault_code};
+ghost use Rattle.sections.specs.Lines.{ReadsLine};
 ghost use Rattle.sections.specs.Did.{Did};
 
 use crate::fault::Fault;
@@ -29,7 +29,7 @@ pub trait Section: Copy {
 
     // The figure of a line.
     fn figure(&self, line: u32) -> Result<i32, Fault>
-        ensures { MatchResult result (λ v. (line < 32) × (v ≡ figure_at (figures self.now) line)) (λ f. (32 ≤ line) × (fault_code f ≡ (6, 9, line))) };
+        ensures { ReadsLine line result (λ v. v ≡ figure_at (figures self.now) line) };
 
     ghost lines: { (s : Self) → length (figures s) ≡ 32 };
 

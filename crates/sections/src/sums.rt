@@ -1,6 +1,6 @@
-ghost use Rattle.std.specs.Prelude.{◌≡◌, ◌<◌, ◌≤◌, MatchResult};
+ghost use Rattle.std.specs.Prelude.{◌≡◌};
 ghost use Rattle.sections.specs.Sums.{line_sum};
-ghost use Rattle.sections.specs.Codes.{fault_code};
+ghost use Rattle.sections.specs.Lines.{ReadsLine};
 
 use crate::fault::Fault;
 use crate::line::Line;
@@ -8,7 +8,7 @@ use crate::section::Section;
 
 // The sum of one line over sheets of any section.
 pub fn line_sum<S: Section>(sheets: &[S], line: u32) -> Result<i128, Fault>
-    ensures { MatchResult result (λ v. (line < 32) × (v ≡ line_sum S.Section.figures line sheets.now)) (λ f. (32 ≤ line) × (fault_code f ≡ (6, 9, line))) }
+    ensures { ReadsLine line result (λ v. v ≡ line_sum S.Section.figures line sheets.now) }
 {
     Line::new(line)?;
     let mut sum: i128 = 0;

@@ -1,7 +1,6 @@
-use Rattle.std.proofs.Common.{◌≡◌, get_or, pos, ◌+ℤ◌, sym, ap, ◌∙◌, arith, rules}
+use Rattle.std.proofs.Common.{◌≡◌, get_or, pos, ◌+ℤ◌, sym, ap, ◌∙◌, arith}
 use Rattle.std.proofs.lemmas.Int.{ints}
 use Rattle.std.proofs.lemmas.List.Sums.{fold_more}
-use Rattle.std.proofs.lemmas.List.{take_all}
 use Rattle.sections.specs.Rule.{figure_at}
 use Rattle.sections.proofs.sums.line_sum.Goals as goal
 
@@ -13,6 +12,3 @@ loop-s-preserved g c =
     let k : figure_at (g.S.Section.figures (get_or c.args.sheets.now c.loop-s.s-index c.s-item.result)) c.args.line ≡ c.in_ok-figure.field-0 =
     ap (λ s. figure_at (g.S.Section.figures s) c.args.line) (sym c.s-item.is) ∙ sym f.1 in
     (f.0, omega (arith, ints), omega (arith, ints), omega (arith, ints))
-
-pub returns : goal.returns
-returns g c = (c.loop-s.invariant.0, search (rules, take_all))

@@ -1,6 +1,7 @@
-use Rattle.std.proofs.Common.{refl}
-use Rattle.sections.proofs.Ranges.{within_zeros}
+use Rattle.std.proofs.Common.{arith}
+use Rattle.std.proofs.lemmas.Int.{ints}
+use Rattle.sections.proofs.Ranges.{within_same}
 use Rattle.sections.proofs.figures.Figures.zero.Goals as goal
 
-pub invariant_of-result : goal.invariant_of-result
-invariant_of-result c = record { size = refl; range = within_zeros 20000 32 }
+pub invariant_of-result-clause-range : goal.invariant_of-result-clause-range
+invariant_of-result-clause-range c = within_same 20000 32 _ (omega (arith, ints)) (omega (arith, ints))
