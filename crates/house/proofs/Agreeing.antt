@@ -25,7 +25,6 @@ use Rattle.house.proofs.Accepted.{begun_left, heard_left}
 use Rattle.house.proofs.Asked.{AllYes, all_yes_lem, yes_parts}
 use Rattle.house.proofs.Histories.{accepted_holds, made_yes, made_holds}
 use Rattle.house.proofs.Holding.{Holds}
-use Rattle.house.proofs.Outcomes.{none_some, some_same}
 use Rattle.house.proofs.Willing.{house_decides}
 use Rattle.methods.specs.Model as models
 
@@ -219,10 +218,10 @@ module _ (m k : Model) (ml : models.Lawful m) (kl : models.Lawful k) (rule : Rul
           (ap (λ a. told_ok a ∷ map told_aside (all_told m rule (after m rule x call) calls)) (same_reply x y call sa) ∙ ap (λ l. told_ok (messages_aside (reply k y call)) ∷ l) r.0, r.1)
       go (Some a) (Some b) e e' q ih =
           let r = ih c d x y hx hy sa in
-          let f : a ≡ b = some_same a b (sym e ∙ q ∙ e') in
+          let f : a ≡ b = cc in
           (ap (λ z. told_no z ∷ map told_aside (all_told m rule x calls)) f ∙ ap (λ l. told_no b ∷ l) r.0, r.1)
-      go None (Some b) e e' q ih = absurd (none_some b (sym e ∙ q ∙ e'))
-      go (Some a) None e e' q ih = absurd (none_some a (sym e' ∙ sym q ∙ e))
+      go None (Some b) e e' q ih = absurd (cc)
+      go (Some a) None e e' q ih = absurd (cc)
 
 pub methods_agree : (m k : Model) → models.Lawful m → models.Lawful k → MethodsAgree m k
 methods_agree m k ml kl rule n sheets recorded tray_cells late_cells p q vp vq x y ex ey calls =

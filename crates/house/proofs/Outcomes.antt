@@ -1,5 +1,5 @@
 -- What the outcome of a step says of its questions.
-use Rattle.std.proofs.Common.{◌≡◌, ℕ, is_some, Some, None, Option, sym, refl, ap}
+use Rattle.std.proofs.Common.{◌≡◌, ℕ, Some, None, Option, sym, refl, ap}
 use Rattle.std.proofs.lemmas.Bool.{true≢false}
 use Rattle.sections.specs.Rule.{Rule}
 use Rattle.methods.specs.Model.{Model}
@@ -40,13 +40,3 @@ outcome_refused (Some k) x a code e = ap Some (ap (code_or k) e)
 
 pub step_done : (m : Model) (rule : Rule) (x : House m.State) (call : Call) (y : House m.State) (answer : Answer) → step m rule x call ≡ done y answer → (first_no (questions m rule x call) ≡ None) × (after m rule x call ≡ y)
 step_done m rule x call y answer e = outcome_done (first_no (questions m rule x call)) (after m rule x call) y (reply m x call) answer e
-
-pub none_some : (code : ℕ × ℕ × ℕ) → ◌≡◌ {A = Option (ℕ × ℕ × ℕ)} None (Some code) → ⊥
-none_some code e = true≢false (sym (ap is_some e))
-
-abbrev code_in : ℕ × ℕ × ℕ → Option (ℕ × ℕ × ℕ) → ℕ × ℕ × ℕ
-code_in z None = z
-code_in z (Some code) = code
-
-pub some_same : (a b : ℕ × ℕ × ℕ) → ◌≡◌ {A = Option (ℕ × ℕ × ℕ)} (Some a) (Some b) → a ≡ b
-some_same a b e = ap (code_in a) e

@@ -12,7 +12,8 @@ use Rattle.house.specs.Cut.{put, put2}
 use Rattle.house.specs.Names.{same, find, without}
 use Rattle.house.specs.PlainHouse.{PlainHouse, Event, plain_step, or_stays, plain_run, RefusesNone}
 use Rattle.house.specs.Statements.{gain_of}
-use Rattle.house.proofs.Sheets.{length-gained, figure_entered, figure_debited, figure_credited}
+use Rattle.sections.proofs.Gains.{length-entered, figure_entered}
+use Rattle.house.proofs.Sheets.{figure_debited, figure_credited}
 use Rattle.house.proofs.Slips.{same_refl, same_true, find_append, Distinct, find_without, distinct_without, distinct_push}
 use Rattle.house.proofs.Sums.{sum_push, sum_set, sum_without}
 use Rattle.house.proofs.Views.{View, FullEvent, event_of, changed, Acts, Acted, Numbered, numbered_acts, enters', posts', takes'}
@@ -83,7 +84,7 @@ abbrev pub held : ℕ → PlainHouse → ℤ
 held line p = on_sheets line p.sheets +ℤ on_slips line p.under_way
 
 pub length-changed : (r : Rule) (d : FullEvent) (f : List ℤ) → length (changed r d f) ≡ length f
-length-changed r (enters' s a b code) f = length-gained 0 (r.gain a b code) f
+length-changed r (enters' s a b code) f = length-entered f (r.gain a b code)
 length-changed r (posts' x) f = length-set f x.line _
 length-changed r (takes' x) f = length-set f x.line _
 

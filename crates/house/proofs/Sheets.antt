@@ -1,21 +1,9 @@
--- The figures of a sheet after an entry, a debit or a credit.
-use Rattle.std.proofs.Common.{◌≡◌, ℕ, zero, suc, ◌+◌, ◌<◌, Bool, true, false, cond, eqb, List, [], ◌∷◌, length, get_or, set, ℤ, pos, ◌+ℤ◌, ◌-ℤ◌, sym, refl, ap, ◌∙◌, subst, arith}
+-- The figures of a sheet after a debit or a credit; those after an entry are in the proofs of the sections.
+use Rattle.std.proofs.Common.{◌≡◌, ℕ, ◌<◌, Bool, true, false, cond, eqb, List, length, get_or, set, ℤ, pos, ◌+ℤ◌, ◌-ℤ◌, sym, refl, ap, subst, arith}
 use Rattle.std.proofs.lemmas.List.{get_or-set_same, get_or-set_other}
 use Rattle.std.proofs.lemmas.Int.{ints}
 use Rattle.std.proofs.lemmas.Bool.{eqb-true, eqb-false}
-use Rattle.sections.specs.Rule.{figure_at, gained_from, entered, debited, credited}
-
-pub length-gained : (k : ℕ) (gain : ℕ → ℤ) (f : List ℤ) → length (gained_from k gain f) ≡ length f
-length-gained k gain [] = refl
-length-gained k gain (x ∷ xs) = ap suc (length-gained (k + 1) gain xs)
-
-pub figure_gained : (k : ℕ) (gain : ℕ → ℤ) (f : List ℤ) (l : ℕ) → l < length f → figure_at (gained_from k gain f) l ≡ figure_at f l +ℤ gain (k + l)
-figure_gained k gain [] l h = absurd (omega arith)
-figure_gained k gain (x ∷ xs) zero h = let e : gain k ≡ gain (k + 0) = ap gain (omega arith) in omega (arith, ints)
-figure_gained k gain (x ∷ xs) (suc l) h = let ih = figure_gained (k + 1) gain xs l (omega arith) in let e : gain (k + 1 + l) ≡ gain (k + suc l) = ap gain (omega arith) in omega (arith, ints)
-
-pub figure_entered : (f : List ℤ) (gain : ℕ → ℤ) (l : ℕ) → l < length f → figure_at (entered f gain) l ≡ figure_at f l +ℤ gain l
-figure_entered f gain l h = figure_gained 0 gain f l h ∙ ap (λ k. figure_at f l +ℤ gain k) (omega arith)
+use Rattle.sections.specs.Rule.{figure_at, debited, credited}
 
 -- one figure is set
 pub figure_set : (f : List ℤ) (line : ℕ) (v : ℤ) (l : ℕ) → l < length f → figure_at (set f line v) l ≡ cond (eqb line l) v (figure_at f l)

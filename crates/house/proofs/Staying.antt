@@ -1,6 +1,6 @@
 -- Between a close and the next accepted open, record, late list and text stay as they are.
-use Rattle.std.proofs.Common.{◌≡◌, ℕ, Bool, true, false, List, [], ◌∷◌, Some, None, Option, sym, refl, ap, ◌∙◌}
-use Rattle.std.proofs.lemmas.Bool.{true≢false}
+use Rattle.std.proofs.Common.{◌≡◌, ℕ, false, List, [], ◌∷◌, Some, None, Option, refl, ap, ◌∙◌}
+use Rattle.std.proofs.lemmas.Bool.{both_ways}
 use Rattle.std.specs.List.{AllByRecursion}
 use Rattle.sections.specs.Rule.{Rule}
 use Rattle.methods.specs.Model.{Model}
@@ -25,19 +25,16 @@ taken_stays h p (Some x) nc =
     let way : arrived p h x ≡ arrives h x = rw nc in
     (ap (λ (z : Hall). z.recorded) way, ap (λ (z : Hall). z.late) way)
 
-never : (b : Bool) → b ≡ true → b ≡ false → ⊥
-never b p q = true≢false (sym p ∙ q)
-
 module _ (m : Model) (rule : Rule) where
   accepted_stays : (x : House m.State) (call : Call) → is_counting x.phase ≡ false → NotOpen call → AllYes (house_questions rule x.phase x.hall (m.outstanding x.method) call) → Stays x (after m rule x call) × (NotFile call → (after m rule x call).phase ≡ x.phase)
   accepted_stays x (enter s a b r) e w y = (stays x (after m rule x (enter s a b r)) e refl refl, λ _. refl)
   accepted_stays x (post s to line amount) e w y = (stays x (after m rule x (post s to line amount)) e refl refl, λ _. refl)
   accepted_stays x (take a b) e w y = let t = taken_stays x.hall x.phase (under_way x.hall a b) e in (stays x (after m rule x (take a b)) e t.0 t.1, λ _. refl)
   accepted_stays x (open' s) e w y = absurd w
-  accepted_stays x (turn s) e w y = absurd (never (is_counting x.phase) y.1.0 e)
-  accepted_stays x (gather s) e w y = absurd (never (is_counting x.phase) y.1.0 e)
-  accepted_stays x (report s) e w y = absurd (never (is_counting x.phase) y.1.0 e)
-  accepted_stays x close e w y = absurd (never (is_counting x.phase) y.0 e)
+  accepted_stays x (turn s) e w y = absurd (both_ways (is_counting x.phase) e y.1.0)
+  accepted_stays x (gather s) e w y = absurd (both_ways (is_counting x.phase) e y.1.0)
+  accepted_stays x (report s) e w y = absurd (both_ways (is_counting x.phase) e y.1.0)
+  accepted_stays x close e w y = absurd (both_ways (is_counting x.phase) e y.0)
   accepted_stays x (file told text) e w y = (stays x (after m rule x (file told text)) refl refl refl, λ f. absurd f)
 
   run_stays : (calls : List Call) (x : House m.State) → is_counting x.phase ≡ false → AllByRecursion NotOpen (accepted m rule x calls) → Stays x (run m rule x calls) × (AllByRecursion NotFile (accepted m rule x calls) → (run m rule x calls).phase ≡ x.phase)
