@@ -34,13 +34,7 @@ pub fn read_number(field: &[u8]) -> Option<i32>
     ensures { result ≡ number field.now }
 {
     match field {
-        [b'-', rest @ ..] => match read_natural(rest) {
-            Some(n) => Some(-(n as i32)),
-            None => None,
-        },
-        _ => match read_natural(field) {
-            Some(n) => Some(n as i32),
-            None => None,
-        },
+        [b'-', rest @ ..] => read_natural(rest).map(|n| -(n as i32)),
+        _ => read_natural(field).map(|n| n as i32),
     }
 }
