@@ -1,7 +1,7 @@
 ghost use Rattle.std.specs.Prelude.{◌≡◌};
 ghost use Rattle.script.specs.Letters.{letter_code, chess_result};
 
-// The code of a result's letter.
+// The code of a result's letter; by the project's rule a `match` on `char` literals.
 fn letter_code(c: char) -> Option<i32>
     ensures { result ≡ letter_code c }
 {

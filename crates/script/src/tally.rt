@@ -37,6 +37,7 @@ impl Tally {
     }
 
     // Plays one line; None stands for a line that is too long.
+    #[tactic(auto, using(crate::proofs::Plays::line_granted))]
     pub fn play(&mut self, line: Option<&[u8]>) -> Result<(), Refusal>
         ensures does { (round_of self.new, answer_code result) ≡ played (round_of self.old) (option_copied line.entry) }
         ensures keeps { OnErr result (self.new ≡ self.old) }
@@ -54,10 +55,10 @@ impl Tally {
     pub fn end_text(&self, heap: Global) -> Result<String, AllocError>
         ensures { IfOk result (λ s. string_bytes s ≡ end_text (round_of self.now)) }
     {
-        match *self {
+        match self {
             Tally::Waiting => Ok(String::new(heap)),
-            Tally::Chess(sheet) => scores_text(heap, &sheet),
-            Tally::Bridge(sheet) => scores_text(heap, &sheet),
+            Tally::Chess(sheet) => scores_text(heap, sheet),
+            Tally::Bridge(sheet) => scores_text(heap, sheet),
         }
     }
 }
