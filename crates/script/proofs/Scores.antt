@@ -23,3 +23,6 @@ pub scores_told : (f : List ℤ) (n : ℕ) (z : ℤ) → SFits w32 z → z ≡ f
 scores_told f n z fits at h =
     let e : eqb (unsigned_abs z) 0 ≡ false = grind (arith, ints, nat_tests) in
     rw (scores_more f n, ← at, to_z-of_z, e)
+
+-- what `scores_text` is proved by
+pub ruleset score_steps = (scores_none, scores_zero, scores_told)

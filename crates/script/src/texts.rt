@@ -27,7 +27,7 @@ pub fn answer_text(heap: Global, answer: Result<(), Refusal>) -> Result<String, 
 }
 
 // The scores of a sheet: each line whose figure is not 0, in order. Its numbers can be read back.
-#[tactic(auto, using(crate::proofs::Written::reads_back))]
+#[tactic(auto, using(crate::proofs::Scores::score_steps, crate::proofs::Written::reads_back))]
 pub fn scores_text<S: Section>(heap: Global, sheet: &S) -> Result<String, AllocError>
     ensures text { IfOk result (λ s. string_bytes s ≡ scores_text (S.Section.figures sheet.now) 32) }
     ensures back { ReadsBack }
