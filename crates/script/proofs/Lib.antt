@@ -1,3 +1,4 @@
+pub mod Cells
 pub mod Digits
 pub mod Plays
 pub mod Scores

@@ -42,6 +42,7 @@ impl Kept {
         self.len == 80
     }
 
+    #[tactic(auto, using(crate::proofs::Cells::one_cell_less, std::proofs::lemmas::Grind::common_steps))]
     pub(crate) fn push(&mut self, byte: u8)
         requires { length self.old < 80 }
         ensures { self.new ≡ self.old ++ byte ∷ [] }
