@@ -7,7 +7,7 @@ use std::marker::Model;
 use std::mem;
 
 // A line that is being read: its bytes so far, or nothing once it has more than 80.
-#[derive(Clone, Copy)]
+#[derive(Clone, Copy, PartialEq, Eq, Debug)]
 pub struct Pending {
     line: Option<Kept>,
 }
