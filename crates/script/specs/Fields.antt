@@ -1,12 +1,14 @@
 -- The fields of a line, parted by tabs (byte 9).
-use Rattle.std.specs.Prelude.{ℕ, cond, List, [], ◌∷◌, Some, None, Option, ◌==◌}
+use Rattle.std.specs.Prelude.{ℕ, Bool, cond, List, length, Some, None, Option, ◌==◌, nat_lt}
+use Rattle.std.specs.List.{before_first, after_first, position_or_len}
+
+abbrev pub is_tab : ℕ → Bool
+is_tab c = c == 9
 
 -- the bytes before the first tab
 abbrev pub field : List ℕ → List ℕ
-field [] = []
-field (c ∷ cs) = cond (c == 9) [] (c ∷ field cs)
+field line = before_first is_tab line
 
 -- what follows the first tab, where there is one
 abbrev pub rest : List ℕ → Option (List ℕ)
-rest [] = None
-rest (c ∷ cs) = cond (c == 9) (Some cs) (rest cs)
+rest line = cond (nat_lt (position_or_len is_tab line) (length line)) (Some (after_first is_tab line)) None

@@ -9,8 +9,12 @@ abbrev pub ok_text : List ℕ
 ok_text = codes "ok" ++ (10 ∷ [])
 
 -- a refusal: no, number, cause, line
+abbrev pub refusal_text : ℕ × ℕ × ℕ → List ℕ
+refusal_text c = codes "no\t" ++ (decimal c.0 ++ (9 ∷ [] ++ (decimal c.1 ++ (9 ∷ [] ++ decimal c.2))))
+
+-- the line that tells it
 abbrev pub no_text : ℕ × ℕ × ℕ → List ℕ
-no_text c = codes "no\t" ++ (decimal c.0 ++ (9 ∷ [] ++ (decimal c.1 ++ (9 ∷ [] ++ (decimal c.2 ++ 10 ∷ [])))))
+no_text c = refusal_text c ++ (10 ∷ [])
 
 abbrev pub answer_text : Result Unit Refusal → List ℕ
 answer_text (Ok _) = ok_text

@@ -11,7 +11,7 @@ use crate::refusal::Refusal;
 use sections::{Bridge, Chess, Section};
 
 // A result between two lines of a sheet.
-#[derive(Clone, Copy)]
+#[derive(Clone, Copy, PartialEq, Eq, Debug)]
 pub struct Entry {
     pub a: u32,
     pub b: u32,
@@ -48,13 +48,10 @@ pub fn read_entry<S: ResultField>(line: &[u8]) -> Option<Entry>
 {
     let (first, more) = first_field(line);
     let (second, last) = first_field(more?);
-    let a = read_natural(first);
-    let b = read_natural(second);
-    let r = S::read_result(last?);
     Some(Entry {
-        a: a?,
-        b: b?,
-        r: r?,
+        a: read_natural(first)?,
+        b: read_natural(second)?,
+        r: S::read_result(last?)?,
     })
 }
 
@@ -62,9 +59,7 @@ pub fn read_entry<S: ResultField>(line: &[u8]) -> Option<Entry>
 pub fn enter_line<S: ResultField>(sheet: &mut S, line: &[u8]) -> Result<(), Refusal>
     ensures { LineDid S.Section.rule S.Section.figures (entry_of S.ResultField.field_result line.now) sheet.old sheet.new result }
 {
-    let Some(entry) = read_entry::<S>(line) else {
-        return Err(Refusal::Malformed);
-    };
+    let entry = read_entry::<S>(line).ok_or(Refusal::Malformed)?;
     sheet.enter(entry.a, entry.b, entry.r)?;
     Ok(())
 }

@@ -1,25 +1,29 @@
 ghost use Rattle.std.specs.Prelude.{◌≡◌};
+ghost use Rattle.std.specs.Option.{option_map};
+ghost use Rattle.sections.specs.Game.{number_of};
 ghost use Rattle.script.specs.Letters.{letter_code, chess_result};
 
-// The code of a result's letter.
-fn letter_code(c: char) -> Option<i32>
-    ensures { result ≡ letter_code c }
+use sections::Game;
+
+// The result of a game that a letter names; by the project's rule a `match` on `char` literals.
+fn game_of(letter: char) -> Option<Game>
+    ensures { option_map number_of result ≡ letter_code letter }
 {
-    match c {
-        'w' => Some(2),
-        'd' => Some(1),
-        'l' => Some(0),
-        'n' => Some(3),
+    match letter {
+        'w' => Some(Game::FirstWon),
+        'd' => Some(Game::Drawn),
+        'l' => Some(Game::SecondWon),
+        'n' => Some(Game::NobodyScored),
         _ => None,
     }
 }
 
-// A chess result: one letter, w, d, l or n.
+// The number of a chess result: one letter, w, d, l or n.
 pub fn read_letter(field: &[u8]) -> Option<i32>
     ensures { result ≡ chess_result field.now }
 {
     match field {
-        [c] => letter_code(char::from(*c)),
+        [letter] => game_of(char::from(*letter)).map(i32::from),
         _ => None,
     }
 }

@@ -2,6 +2,7 @@
 
 mod entries;
 mod fields;
+mod kept;
 mod letters;
 mod numbers;
 mod pending;

@@ -1,7 +1,8 @@
 ghost use Rattle.std.specs.Prelude.{◌≡◌, ◌+◌, ◌*◌, ◌^◌, ◌<◌, ◌≤◌, IfSome};
 ghost use Rattle.script.specs.Numbers.{digits_after, natural, number};
 
-// At most `room` digits, read after the number `acc`.
+// At most `room` digits, read after the number `acc`; by the project's rule a recursion with slice patterns.
+#[tactic(auto, using(crate::proofs::Digits::digit_steps))]
 fn digits(s: &[u8], acc: u32, room: u32) -> Option<u32>
     requires { (acc + 1) * 10 ^ room ≤ 10 ^ 9 }
     ensures value { result ≡ digits_after acc room s.now }
@@ -34,13 +35,7 @@ pub fn read_number(field: &[u8]) -> Option<i32>
     ensures { result ≡ number field.now }
 {
     match field {
-        [b'-', rest @ ..] => match read_natural(rest) {
-            Some(n) => Some(-(n as i32)),
-            None => None,
-        },
-        _ => match read_natural(field) {
-            Some(n) => Some(n as i32),
-            None => None,
-        },
+        [b'-', rest @ ..] => read_natural(rest).map(|n| -(n as i32)),
+        _ => read_natural(field).map(|n| n as i32),
     }
 }

@@ -1,11 +1,14 @@
-ghost use Rattle.std.specs.Prelude.{◌≡◌};
+ghost use Rattle.std.specs.Prelude.{◌≡◌, Some};
 ghost use Rattle.sections.specs.Codes.{fault_code};
 ghost use Rattle.script.specs.Codes.{refusal_code};
+ghost use Rattle.script.specs.Texts.{refusal_text};
 
 use sections::Fault;
+use std::error::Error;
+use std::fmt;
 
 // Why a line of a script is refused.
-#[derive(Clone, Copy)]
+#[derive(Clone, Copy, PartialEq, Eq, Debug)]
 pub enum Refusal {
     // the line is not well written
     Malformed,
@@ -32,3 +35,15 @@ impl Refusal {
         }
     }
 }
+
+// The line that tells a refusal, without its end.
+impl fmt::Display for Refusal {
+    ghost output = { λ x. Some (refusal_text (refusal_code x)) };
+
+    fn fmt<W: fmt::Write>(&self, f: &mut fmt::Formatter<W>) -> fmt::Result {
+        let (number, cause, line) = self.code();
+        write!(f, "no\t{number}\t{cause}\t{line}")
+    }
+}
+
+impl Error for Refusal {}

@@ -1,22 +1,22 @@
-ghost use Rattle.std.specs.Prelude.{◌≡◌, IfOk, Some, string_bytes, MatchResult, OnErr};
-ghost use Rattle.std.specs.Option.{option_map};
-ghost use Rattle.script.specs.Codes.{refusal_code};
-ghost use Rattle.script.specs.Rounds.{waiting, answer_code, played, end_text};
+ghost use Rattle.std.specs.Prelude.{◌≡◌, IfOk, string_bytes, OnErr};
+ghost use Rattle.std.specs.Option.{option_copied};
+ghost use Rattle.sections.specs.Rule.{blank_sheet};
+ghost use Rattle.script.specs.Rounds.{waiting, playing, answer_code, played, end_text};
 ghost use Rattle.script.specs.Tallied.{round_of};
 
 use crate::entries::enter_line;
 use crate::refusal::Refusal;
 use crate::texts::scores_text;
 use crate::words::{Kind, read_kind};
-use sections::Section;
+use sections::{Bridge, Chess, Section};
 use std::alloc::{AllocError, Global};
 
 // The scoring of one round: a line names the section, and the lines after it enter results.
 #[derive(Clone, Copy)]
 pub enum Tally {
     Waiting,
-    Chess(sections::Chess),
-    Bridge(sections::Bridge),
+    Chess(Chess),
+    Bridge(Bridge),
 }
 
 impl Tally {
@@ -26,36 +26,28 @@ impl Tally {
         Tally::Waiting
     }
 
-    // What a line makes of the tally, or why it is refused.
-    fn after(self, line: &[u8]) -> Result<Tally, Refusal>
-        ensures { MatchResult result (λ t. (round_of t, (0, 0, 0)) ≡ played (round_of self) (Some line.now)) (λ x. (round_of self, refusal_code x) ≡ played (round_of self) (Some line.now)) }
+    // A round of that kind, with nothing scored.
+    fn of_kind(kind: Kind) -> Tally
+        ensures { round_of result ≡ playing kind blank_sheet }
     {
-        match self {
-            Tally::Waiting => match read_kind(line) {
-                Some(Kind::Chess) => Ok(Tally::Chess(sections::Chess::blank())),
-                Some(Kind::Bridge) => Ok(Tally::Bridge(sections::Bridge::blank())),
-                None => Err(Refusal::Malformed),
-            },
-            Tally::Chess(mut sheet) => {
-                enter_line(&mut sheet, line)?;
-                Ok(Tally::Chess(sheet))
-            }
-            Tally::Bridge(mut sheet) => {
-                enter_line(&mut sheet, line)?;
-                Ok(Tally::Bridge(sheet))
-            }
+        match kind {
+            Kind::Chess => Tally::Chess(Chess::blank()),
+            Kind::Bridge => Tally::Bridge(Bridge::blank()),
         }
     }
 
     // Plays one line; None stands for a line that is too long.
+    #[tactic(auto, using(crate::proofs::Plays::line_granted))]
     pub fn play(&mut self, line: Option<&[u8]>) -> Result<(), Refusal>
-        ensures does { (round_of self.new, answer_code result) ≡ played (round_of self.old) (option_map (λ x. x.now) line.entry) }
+        ensures does { (round_of self.new, answer_code result) ≡ played (round_of self.old) (option_copied line.entry) }
         ensures keeps { OnErr result (self.new ≡ self.old) }
     {
-        let Some(bytes) = line else {
-            return Err(Refusal::Malformed);
-        };
-        *self = self.after(bytes)?;
+        let bytes = line.ok_or(Refusal::Malformed)?;
+        match self {
+            Tally::Waiting => *self = Tally::of_kind(read_kind(bytes).ok_or(Refusal::Malformed)?),
+            Tally::Chess(sheet) => enter_line(sheet, bytes)?,
+            Tally::Bridge(sheet) => enter_line(sheet, bytes)?,
+        }
         Ok(())
     }
 
@@ -63,10 +55,10 @@ impl Tally {
     pub fn end_text(&self, heap: Global) -> Result<String, AllocError>
         ensures { IfOk result (λ s. string_bytes s ≡ end_text (round_of self.now)) }
     {
-        match *self {
+        match self {
             Tally::Waiting => Ok(String::new(heap)),
-            Tally::Chess(sheet) => scores_text(heap, &sheet),
-            Tally::Bridge(sheet) => scores_text(heap, &sheet),
+            Tally::Chess(sheet) => scores_text(heap, sheet),
+            Tally::Bridge(sheet) => scores_text(heap, sheet),
         }
     }
 }

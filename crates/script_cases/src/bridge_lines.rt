@@ -1,10 +1,9 @@
-use script::{Tally, answer_text};
+use crate::rounds::check_round;
 use std::test::Fail;
 
 #[test]
 fn a_round_of_bridge(rt: HostRuntime) -> Result<(), Fail> {
-    let mut tally = Tally::new();
-    for (line, want) in [
+    let lines = [
         ("0\t1\t10", "no\t27\t0\t0\n"),
         ("Bridge", "no\t27\t0\t0\n"),
         ("bridge ", "no\t27\t0\t0\n"),
@@ -37,14 +36,10 @@ fn a_round_of_bridge(rt: HostRuntime) -> Result<(), Fail> {
         ("8\t9\t10\r", "no\t27\t0\t0\n"),
         (" 8\t9\t10", "no\t27\t0\t0\n"),
         ("", "no\t27\t0\t0\n"),
-    ] {
-        let told = answer_text(rt.alloc(), tally.play(Some(line.as_bytes())))?;
-        assert_eq!(rt; told.as_str(), want);
-    }
-    let scores = tally.end_text(rt.alloc())?;
-    assert_eq!(rt;
-        scores.as_str(),
-        "score\t0\t-23\nscore\t1\t-1\nscore\t2\t-21\nscore\t3\t21\nscore\t31\t24\n"
-    );
-    Ok(())
+    ];
+    check_round(
+        &rt,
+        &lines,
+        "score\t0\t-23\nscore\t1\t-1\nscore\t2\t-21\nscore\t3\t21\nscore\t31\t24\n",
+    )
 }

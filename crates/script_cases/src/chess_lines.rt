@@ -1,10 +1,9 @@
-use script::{Tally, answer_text};
+use crate::rounds::check_round;
 use std::test::Fail;
 
 #[test]
 fn a_round_of_chess(rt: HostRuntime) -> Result<(), Fail> {
-    let mut tally = Tally::new();
-    for (line, want) in [
+    let lines = [
         ("", "no\t27\t0\t0\n"),
         ("chess\t", "no\t27\t0\t0\n"),
         ("chess", "ok\n"),
@@ -20,14 +19,10 @@ fn a_round_of_chess(rt: HostRuntime) -> Result<(), Fail> {
         ("6\t6\tw", "no\t6\t9\t6\n"),
         ("6\t32\tw", "no\t6\t9\t6\n"),
         ("32\t6\tw", "no\t6\t9\t32\n"),
-    ] {
-        let told = answer_text(rt.alloc(), tally.play(Some(line.as_bytes())))?;
-        assert_eq!(rt; told.as_str(), want);
-    }
-    let scores = tally.end_text(rt.alloc())?;
-    assert_eq!(rt;
-        scores.as_str(),
-        "score\t0\t2\nscore\t2\t1\nscore\t3\t1\nscore\t5\t2\n"
-    );
-    Ok(())
+    ];
+    check_round(
+        &rt,
+        &lines,
+        "score\t0\t2\nscore\t2\t1\nscore\t3\t1\nscore\t5\t2\n",
+    )
 }

@@ -9,3 +9,5 @@ mod chess_lines;
 mod long_lines;
 #[cfg(test)]
 mod numbers;
+#[cfg(test)]
+mod rounds;

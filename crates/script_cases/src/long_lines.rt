@@ -23,10 +23,7 @@ fn eighty_bytes_are_kept_and_no_more(rt: HostRuntime) {
     ] {
         let pending = zeros(bytes);
         assert_eq!(rt; pending.is_begun(), bytes > 0);
-        match pending.line() {
-            Some(line) => assert_eq!(rt; Some(line.len()), kept),
-            None => assert_eq!(rt; None, kept),
-        }
+        assert_eq!(rt; pending.line().map(|line| line.len()), kept);
     }
 }
 

@@ -1,17 +1,18 @@
-use Rattle.std.proofs.Common.{◌≡◌, ℕ, ◌<◌, length, get_or, sym, add-one, arith}
-use native.Mathlib.Nat.{sub-zero}
-use Rattle.std.proofs.lemmas.List.{take_rest}
-use Rattle.script.proofs.Tabs.{field_at, rest_at, field_all, rest_none}
+use Rattle.std.proofs.Common.{◌≡◌, ltb, cond, length, Some, None, arith, rules, tests}
+use Rattle.std.proofs.lemmas.Bool.Decides.{nat_tests}
+use Rattle.std.proofs.lemmas.List.{take_all, take_rest}
+use Rattle.std.proofs.lemmas.Iterator.{YieldsList-from_slice}
+use Rattle.std.proofs.lemmas.Iterator.Search.{position_from_yields_List}
+use Rattle.std.specs.List.{position_or_len}
+use Rattle.script.specs.Fields.{is_tab}
+use Rattle.script.proofs.fields.first_field.Goals.{After-position}
 use Rattle.script.proofs.fields.first_field.Goals as goal
 
-pub returns-then-b-eq9 : goal.returns-then-b-eq9
-returns-then-b-eq9 c =
-    record {
-      first = rw (field_at c.args.line.now c.loop-i.i c.loop-i.invariant c.loop-i-test.true c.if-b-eq9.true) (simp sub-zero);
-      more = rw (rest_at c.args.line.now c.loop-i.i c.loop-i.invariant c.loop-i-test.true c.if-b-eq9.true) (simp (take_rest, add-one));
-    }
+found : (c : After-position) → c.position.result ≡ cond (ltb (position_or_len is_tab c.args.line.now) (length c.args.line.now)) (Some (position_or_len is_tab c.args.line.now)) None
+found c = position_from_yields_List is_tab _ _ c.position.result c.position.ensures.ran (YieldsList-from_slice _ c.iter.ensures.rest) (λ x b q k. search (rules, tests))
 
-pub returns : goal.returns
-returns c =
-    let free : (k : ℕ) → k < length c.args.line.now → get_or c.args.line.now k 0 ≡ 9 → ⊥ = λ k h. c.loop-i.invariant k (omega arith) in
-    record { first = sym (field_all c.args.line.now free); more = sym (rest_none c.args.line.now free) }
+pub returns-in-Some : goal.returns-in-Some
+returns-in-Some c = grind (arith, nat_tests, take_rest, found (goal.at.returns-in-Some c).After-position)
+
+pub returns-in-None : goal.returns-in-None
+returns-in-None c = grind (arith, nat_tests, take_all, found (goal.at.returns-in-None c).After-position)
