@@ -12,7 +12,7 @@ pub struct Station {
     pub frozen: i32,
     // late slips of this count that it has not reported yet
     pub unreported: u32,
-    // whether it has turned in this count
+    // whether it has turned in this count; no `Option` of `frozen`, which outlasts the count
     pub turned: bool,
     // whether it has gathered in this count
     pub gathered: bool,

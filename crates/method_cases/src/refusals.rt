@@ -2,7 +2,7 @@ use crate::named::Named;
 use methods::{Method, MethodRefusal};
 use std::{fmt, io};
 
-// A call of a counting method.
+// A call of a counting method, as a value: it is made and told.
 #[derive(Clone, Copy)]
 enum Call {
     Begin(usize, i64),

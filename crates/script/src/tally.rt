@@ -11,7 +11,8 @@ use crate::words::{Kind, read_kind};
 use sections::{Bridge, Chess, Section};
 use std::alloc::{AllocError, Global};
 
-// The scoring of one round: a line names the section, and the lines after it enter results.
+// The scoring of one round: a line names the section, and the lines after it enter results. The sheets of the two sections are of
+// two types, so that each has its case; a `dyn` would need a heap.
 #[derive(Clone, Copy)]
 pub enum Tally {
     Waiting,

@@ -44,7 +44,7 @@ impl Fault {
         Fault { cause, line }
     }
 
-    // Number, cause and line, as a refusal is told.
+    // Number, cause and line, as a refusal is told. By a name, since `from` would not say what the three numbers are.
     pub fn code(self) -> (u8, u8, u32)
         ensures { result ≡ fault_code self }
     {
