@@ -12,40 +12,40 @@ top : (z : ℤ) → neg_ℤ (pos 20000) ≤ℤ z → is_figure z ≡ le_z z (pos
 top z low = grind (arith, ints)
 
 -- what a result gives is never negative
-gained : (f : List ℤ) (line k : ℕ) → Within 20000 f → is_figure (figure_at f line +ℤ pos k) ≡ le_z (figure_at f line +ℤ pos k) (pos 20000)
-gained f line k w = let b = w line in top (figure_at f line +ℤ pos k) (omega (arith, ints))
+gain_in_range : (f : List ℤ) (line k : ℕ) → Within 20000 f → is_figure (figure_at f line +ℤ pos k) ≡ le_z (figure_at f line +ℤ pos k) (pos 20000)
+gain_in_range f line k w = let b = w line in top (figure_at f line +ℤ pos k) (omega (arith, ints))
 
 -- nor is the amount of a credit
-credited : (f : List ℤ) (line : ℕ) (amount : ℤ) → Within 20000 f → is_amount amount ≡ true → is_figure (figure_at f line +ℤ amount) ≡ le_z (figure_at f line +ℤ amount) (pos 20000)
-credited f line amount w h = let b = w line in let positive : pos 0 ≤ℤ amount = grind (arith, ints) in top (figure_at f line +ℤ amount) (omega (arith, ints))
+credit_in_range : (f : List ℤ) (line : ℕ) (amount : ℤ) → Within 20000 f → is_amount amount ≡ true → is_figure (figure_at f line +ℤ amount) ≡ le_z (figure_at f line +ℤ amount) (pos 20000)
+credit_in_range f line amount w h = let b = w line in let positive : pos 0 ≤ℤ amount = grind (arith, ints) in top (figure_at f line +ℤ amount) (omega (arith, ints))
 
 -- nor is the figure after a debit that it covers
-debited : (f : List ℤ) (line : ℕ) (amount : ℤ) → le_z amount (figure_at f line) ≡ true → is_figure (figure_at f line -ℤ amount) ≡ le_z (figure_at f line -ℤ amount) (pos 20000)
-debited f line amount h = let covered : amount ≤ℤ figure_at f line = grind (arith, ints) in top (figure_at f line -ℤ amount) (omega (arith, ints))
+debit_in_range : (f : List ℤ) (line : ℕ) (amount : ℤ) → le_z amount (figure_at f line) ≡ true → is_figure (figure_at f line -ℤ amount) ≡ le_z (figure_at f line -ℤ amount) (pos 20000)
+debit_in_range f line amount h = let covered : amount ≤ℤ figure_at f line = grind (arith, ints) in top (figure_at f line -ℤ amount) (omega (arith, ints))
 
-entry : (f : List ℤ) (a b : ℕ) (r : ℤ) → Within 20000 f → chess_entry f a b r ≡ pair_entry f a b (half_points r)
-entry f a b r w = go (is_result r) refl
+entry_plays : (f : List ℤ) (a b : ℕ) (r : ℤ) → Within 20000 f → chess_entry f a b r ≡ pair_entry f a b (half_points r)
+entry_plays f a b r w = go (is_result r) refl
   where
     go : (t : Bool) → is_result r ≡ t → chess_entry f a b r ≡ pair_entry f a b (half_points r)
-    go true p = rw (p, gained f a _ w, gained f b _ w)
+    go true p = rw (p, gain_in_range f a _ w, gain_in_range f b _ w)
     go false p = rw p
 
-debit : (f : List ℤ) (line : ℕ) (amount : ℤ) → chess_debit f line amount ≡ sheet_debit is_amount (λ figure amount. le_z amount figure) f line amount
-debit f line amount = go (le_z amount (figure_at f line)) refl
+debit_plays : (f : List ℤ) (line : ℕ) (amount : ℤ) → chess_debit f line amount ≡ sheet_debit is_amount (λ figure amount. le_z amount figure) f line amount
+debit_plays f line amount = go (le_z amount (figure_at f line)) refl
   where
     go : (t : Bool) → le_z amount (figure_at f line) ≡ t → chess_debit f line amount ≡ sheet_debit is_amount (λ figure amount. le_z amount figure) f line amount
-    go true p = rw (debited f line amount p)
+    go true p = rw (debit_in_range f line amount p)
     go false p = rw p
 
-credit : (f : List ℤ) (line : ℕ) (amount : ℤ) → Within 20000 f → chess_credit f line amount ≡ sheet_credit is_amount f line amount
-credit f line amount w = go (is_amount amount) refl
+credit_plays : (f : List ℤ) (line : ℕ) (amount : ℤ) → Within 20000 f → chess_credit f line amount ≡ sheet_credit is_amount f line amount
+credit_plays f line amount w = go (is_amount amount) refl
   where
     go : (t : Bool) → is_amount amount ≡ t → chess_credit f line amount ≡ sheet_credit is_amount f line amount
-    go true p = rw (credited f line amount w p)
+    go true p = rw (credit_in_range f line amount w p)
     go false p = rw p
 
 pub chess_plays : Plays chess half_points is_amount (λ figure amount. le_z amount figure)
-chess_plays = record { entry = entry; debit = λ f line amount w. debit f line amount; credit = credit; gain = λ a b r. refl }
+chess_plays = record { entry = entry_plays; debit = λ f line amount w. debit_plays f line amount; credit = credit_plays; gain = λ a b r. refl }
 
 pub chess_amounts : AmountsAreSmall is_amount
 chess_amounts amount h = grind (arith, ints)
