@@ -8,7 +8,7 @@ pub enum Kind {
     Bridge,
 }
 
-// The section that a word names.
+// The section that a word names. No `TryFrom<&[u8]>`: an error would say no more than `None`, as in the readers of letters and numbers.
 pub fn read_kind(word: &[u8]) -> Option<Kind>
     ensures { result ≡ kind_of word.now }
 {

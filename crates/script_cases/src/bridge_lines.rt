@@ -1,4 +1,5 @@
-use crate::rounds::check_round;
+use crate::rounds::wrong_line;
+use script::Tally;
 use std::test::Fail;
 
 #[test]
@@ -37,9 +38,12 @@ fn a_round_of_bridge(rt: HostRuntime) -> Result<(), Fail> {
         (" 8\t9\t10", "no\t27\t0\t0\n"),
         ("", "no\t27\t0\t0\n"),
     ];
-    check_round(
-        &rt,
-        &lines,
-        "score\t0\t-23\nscore\t1\t-1\nscore\t2\t-21\nscore\t3\t21\nscore\t31\t24\n",
-    )
+    let mut tally = Tally::new();
+    assert_eq!(rt; wrong_line(rt.alloc(), &mut tally, &lines)?, None);
+    let scores = tally.end_text(rt.alloc())?;
+    assert_eq!(rt;
+        scores.as_str(),
+        "score\t0\t-23\nscore\t1\t-1\nscore\t2\t-21\nscore\t3\t21\nscore\t31\t24\n"
+    );
+    Ok(())
 }

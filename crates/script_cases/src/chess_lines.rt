@@ -1,4 +1,5 @@
-use crate::rounds::check_round;
+use crate::rounds::wrong_line;
+use script::Tally;
 use std::test::Fail;
 
 #[test]
@@ -20,9 +21,12 @@ fn a_round_of_chess(rt: HostRuntime) -> Result<(), Fail> {
         ("6\t32\tw", "no\t6\t9\t6\n"),
         ("32\t6\tw", "no\t6\t9\t32\n"),
     ];
-    check_round(
-        &rt,
-        &lines,
-        "score\t0\t2\nscore\t2\t1\nscore\t3\t1\nscore\t5\t2\n",
-    )
+    let mut tally = Tally::new();
+    assert_eq!(rt; wrong_line(rt.alloc(), &mut tally, &lines)?, None);
+    let scores = tally.end_text(rt.alloc())?;
+    assert_eq!(rt;
+        scores.as_str(),
+        "score\t0\t2\nscore\t2\t1\nscore\t3\t1\nscore\t5\t2\n"
+    );
+    Ok(())
 }

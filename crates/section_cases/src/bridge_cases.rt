@@ -1,4 +1,4 @@
-use crate::told::{credited, gains, told};
+use crate::told::{credited, gains, told, wrong_amount, wrong_entry};
 use sections::{Bridge, Section};
 use std::test::Fail;
 
@@ -27,18 +27,22 @@ fn entries(rt: HostRuntime) -> Result<(), Fail> {
         assert_eq!(rt; gains::<Bridge>(r)?, want);
     }
     let mut s = Bridge::blank();
-    for (a, b, r, want) in [
-        (4, 5, 15_010, (6, 1, 4)),
-        (4, 5, -15_010, (6, 1, 4)),
-        (4, 5, 15, (6, 1, 4)),
-        (4, 5, -15, (6, 1, 4)),
-        (4, 5, i32::MIN, (6, 1, 4)),
-        (3, 3, 15, (6, 9, 3)),
-        (3, 32, 15, (6, 9, 3)),
-        (32, 3, 15, (6, 9, 32)),
-    ] {
-        assert_eq!(rt; told(s.enter(a, b, r)), want);
-    }
+    assert_eq!(rt;
+        wrong_entry(
+            &mut s,
+            &[
+                (4, 5, 15_010, (6, 1, 4)),
+                (4, 5, -15_010, (6, 1, 4)),
+                (4, 5, 15, (6, 1, 4)),
+                (4, 5, -15, (6, 1, 4)),
+                (4, 5, i32::MIN, (6, 1, 4)),
+                (3, 3, 15, (6, 9, 3)),
+                (3, 32, 15, (6, 9, 3)),
+                (32, 3, 15, (6, 9, 32)),
+            ]
+        ),
+        None
+    );
     assert_eq!(rt; told(s.figure(32)), (6, 9, 32));
     assert_eq!(rt; s.figure(4)?, 0);
     Ok(())
@@ -47,28 +51,36 @@ fn entries(rt: HostRuntime) -> Result<(), Fail> {
 #[test]
 fn amounts(rt: HostRuntime) -> Result<(), Fail> {
     let mut s = Bridge::blank();
-    for (line, amount, want) in [
-        (7, 0, (6, 3, 7)),
-        (7, 1_001, (6, 3, 7)),
-        (7, -1_001, (6, 3, 7)),
-        (32, 0, (6, 9, 32)),
-        (u32::MAX, 1, (6, 9, u32::MAX)),
-        (7, 1_000, (0, 0, 0)),
-        (7, -1, (0, 0, 0)),
-    ] {
-        assert_eq!(rt; told(s.credit(line, amount)), want);
-    }
+    assert_eq!(rt;
+        wrong_amount(
+            |line, amount| s.credit(line, amount),
+            &[
+                (7, 0, (6, 3, 7)),
+                (7, 1_001, (6, 3, 7)),
+                (7, -1_001, (6, 3, 7)),
+                (32, 0, (6, 9, 32)),
+                (u32::MAX, 1, (6, 9, u32::MAX)),
+                (7, 1_000, (0, 0, 0)),
+                (7, -1, (0, 0, 0)),
+            ]
+        ),
+        None
+    );
     assert_eq!(rt; s.figure(7)?, 999);
-    for (line, amount, want) in [
-        (7, 0, (6, 3, 7)),
-        (7, 1_001, (6, 3, 7)),
-        (7, -1_001, (6, 3, 7)),
-        (32, 0, (6, 9, 32)),
-        (7, -1_000, (0, 0, 0)),
-        (7, 1, (0, 0, 0)),
-    ] {
-        assert_eq!(rt; told(s.debit(line, amount)), want);
-    }
+    assert_eq!(rt;
+        wrong_amount(
+            |line, amount| s.debit(line, amount),
+            &[
+                (7, 0, (6, 3, 7)),
+                (7, 1_001, (6, 3, 7)),
+                (7, -1_001, (6, 3, 7)),
+                (32, 0, (6, 9, 32)),
+                (7, -1_000, (0, 0, 0)),
+                (7, 1, (0, 0, 0)),
+            ]
+        ),
+        None
+    );
     for (line, want) in [(6, 0), (7, 1_998), (8, 0)] {
         assert_eq!(rt; s.figure(line)?, want);
     }
@@ -81,15 +93,19 @@ fn figures_at_their_ends(rt: HostRuntime) -> Result<(), Fail> {
     assert_eq!(rt; told(top.credit(0, 1)), (6, 2, 0));
     assert_eq!(rt; told(top.credit(0, 1_001)), (6, 3, 0));
     assert_eq!(rt; told(top.debit(0, -1)), (6, 2, 0));
-    for (a, b, r, want) in [
-        (0, 2, 20, (6, 2, 0)),
-        (2, 0, -20, (6, 2, 0)),
-        (0, 2, 25, (6, 1, 0)),
-        (0, 1, 20, (6, 2, 0)),
-        (0, 1, -20, (6, 2, 1)),
-    ] {
-        assert_eq!(rt; told(top.enter(a, b, r)), want);
-    }
+    assert_eq!(rt;
+        wrong_entry(
+            &mut top,
+            &[
+                (0, 2, 20, (6, 2, 0)),
+                (2, 0, -20, (6, 2, 0)),
+                (0, 2, 25, (6, 1, 0)),
+                (0, 1, 20, (6, 2, 0)),
+                (0, 1, -20, (6, 2, 1)),
+            ]
+        ),
+        None
+    );
     assert_eq!(rt; top.figure(0)?, 20_000);
     let mut low: Bridge = credited(-1_000)?;
     assert_eq!(rt; told(low.debit(0, 1)), (6, 2, 0));

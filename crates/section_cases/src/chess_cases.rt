@@ -1,4 +1,4 @@
-use crate::told::{credited, gains, told};
+use crate::told::{credited, gains, told, wrong_amount, wrong_entry};
 use sections::{Chess, Section};
 use std::test::Fail;
 
@@ -8,15 +8,19 @@ fn entries(rt: HostRuntime) -> Result<(), Fail> {
         assert_eq!(rt; gains::<Chess>(r)?, want);
     }
     let mut s = Chess::blank();
-    for (a, b, r, want) in [
-        (6, 9, 4, (6, 1, 6)),
-        (6, 9, -1, (6, 1, 6)),
-        (3, 3, 9, (6, 9, 3)),
-        (3, 32, 9, (6, 9, 3)),
-        (32, 0, 9, (6, 9, 32)),
-    ] {
-        assert_eq!(rt; told(s.enter(a, b, r)), want);
-    }
+    assert_eq!(rt;
+        wrong_entry(
+            &mut s,
+            &[
+                (6, 9, 4, (6, 1, 6)),
+                (6, 9, -1, (6, 1, 6)),
+                (3, 3, 9, (6, 9, 3)),
+                (3, 32, 9, (6, 9, 3)),
+                (32, 0, 9, (6, 9, 32)),
+            ]
+        ),
+        None
+    );
     assert_eq!(rt; told(s.figure(32)), (6, 9, 32));
     assert_eq!(rt; s.figure(6)?, 0);
     Ok(())
@@ -29,15 +33,19 @@ fn a_win_near_the_top(rt: HostRuntime) -> Result<(), Fail> {
     s.enter(0, 2, 2)?;
     assert_eq!(rt; s.figure(0)?, 20_000);
     s.debit(0, 1)?;
-    for (a, b, r, want) in [
-        (0, 2, 2, (6, 2, 0)),
-        (2, 0, 0, (6, 2, 0)),
-        (0, 2, 9, (6, 1, 0)),
-        (1, 0, 1, (6, 2, 1)),
-        (5, 1, 1, (6, 2, 1)),
-    ] {
-        assert_eq!(rt; told(s.enter(a, b, r)), want);
-    }
+    assert_eq!(rt;
+        wrong_entry(
+            &mut s,
+            &[
+                (0, 2, 2, (6, 2, 0)),
+                (2, 0, 0, (6, 2, 0)),
+                (0, 2, 9, (6, 1, 0)),
+                (1, 0, 1, (6, 2, 1)),
+                (5, 1, 1, (6, 2, 1)),
+            ]
+        ),
+        None
+    );
     s.enter(0, 1, 3)?;
     assert_eq!(rt; s.figure(0)?, 19_999);
     assert_eq!(rt; s.figure(2)?, 0);
@@ -55,31 +63,39 @@ fn the_first_line_is_told_before_the_second(rt: HostRuntime) -> Result<(), Fail>
 #[test]
 fn amounts(rt: HostRuntime) -> Result<(), Fail> {
     let mut s: Chess = credited(1_000)?;
-    for (line, amount, want) in [
-        (3, 0, (6, 3, 3)),
-        (3, 1_001, (6, 3, 3)),
-        (3, -1, (6, 3, 3)),
-        (32, 5_000, (6, 9, 32)),
-        (1, 1, (6, 2, 1)),
-        (1, 1_001, (6, 3, 1)),
-        (3, 1, (0, 0, 0)),
-        (4, 1_000, (0, 0, 0)),
-    ] {
-        assert_eq!(rt; told(s.credit(line, amount)), want);
-    }
-    for (line, amount, want) in [
-        (0, 0, (6, 3, 0)),
-        (0, 1_001, (6, 3, 0)),
-        (0, -1, (6, 3, 0)),
-        (32, 0, (6, 9, 32)),
-        (5, 1_001, (6, 3, 5)),
-        (3, 2, (6, 4, 3)),
-        (3, 1, (0, 0, 0)),
-        (3, 1, (6, 4, 3)),
-        (0, 1_000, (0, 0, 0)),
-    ] {
-        assert_eq!(rt; told(s.debit(line, amount)), want);
-    }
+    assert_eq!(rt;
+        wrong_amount(
+            |line, amount| s.credit(line, amount),
+            &[
+                (3, 0, (6, 3, 3)),
+                (3, 1_001, (6, 3, 3)),
+                (3, -1, (6, 3, 3)),
+                (32, 5_000, (6, 9, 32)),
+                (1, 1, (6, 2, 1)),
+                (1, 1_001, (6, 3, 1)),
+                (3, 1, (0, 0, 0)),
+                (4, 1_000, (0, 0, 0)),
+            ]
+        ),
+        None
+    );
+    assert_eq!(rt;
+        wrong_amount(
+            |line, amount| s.debit(line, amount),
+            &[
+                (0, 0, (6, 3, 0)),
+                (0, 1_001, (6, 3, 0)),
+                (0, -1, (6, 3, 0)),
+                (32, 0, (6, 9, 32)),
+                (5, 1_001, (6, 3, 5)),
+                (3, 2, (6, 4, 3)),
+                (3, 1, (0, 0, 0)),
+                (3, 1, (6, 4, 3)),
+                (0, 1_000, (0, 0, 0)),
+            ]
+        ),
+        None
+    );
     for (line, want) in [
         (0, 19_000),
         (1, 20_000),

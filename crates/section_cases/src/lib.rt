@@ -1,5 +1,4 @@
-// Cases of the two sections at the edges of their rules, as tables; each test is proved safe, and then run. Each section has
-// tests of its own: the tables are what they test, and their results and amounts differ.
+// Cases of the two sections at the edges of their rules, as tables; each test is proved safe, and then run.
 #![tactic(auto)]
 
 #[cfg(test)]
