@@ -14,6 +14,6 @@ pub struct Station {
     pub unreported: u32,
     // whether it has turned in this count; no `Option` of `frozen`, which outlasts the count
     pub turned: bool,
-    // whether it has gathered in this count
+    // whether it has gathered in this count; a mark of its own, since the rules ask for each by a question
     pub gathered: bool,
 }

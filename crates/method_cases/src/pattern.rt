@@ -29,7 +29,7 @@ impl Pattern {
         Pattern::Scattered,
     ];
 
-    // The station of arrival `k` among `n` stations; 0 where there is none.
+    // The station of arrival `k` among `n` stations; 0 where there is none, which a method refuses.
     pub fn station(self, n: u32, k: u32) -> usize
         ensures { 0 < n → result < n }
     {

@@ -2,7 +2,7 @@ use crate::named::Named;
 use methods::{Method, MethodRefusal};
 use std::{fmt, io};
 
-// A call of a counting method, as a value: it is made and told.
+// A call of a counting method, as a value and no closure: it is made and told.
 #[derive(Clone, Copy)]
 enum Call {
     Begin(usize, i64),
@@ -62,6 +62,7 @@ pub fn all<M: Named>(rt: &impl Print) -> io::Result<()> {
         let left = method.outstanding();
         match answer {
             Ok(sent) => println!(rt; "{word} {call}: ok {sent}, left {left}")?,
+            // the program's own form: blanks where a script has tabs
             Err(refusal) => {
                 let (number, cause, line) = refusal.code();
                 println!(rt; "{word} {call}: no {number} {cause} {line}, left {left}")?;

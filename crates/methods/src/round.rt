@@ -8,7 +8,8 @@ use crate::deal::{dealt_to, limit_of};
 use crate::split::split;
 use arrayvec::ArrayVec;
 
-// A round of the token tree: its limit, and the tokens of each station. At most 64 stations and 8,192 tokens.
+// A round of the token tree: its limit, and the tokens of each station. At most 64 stations and 8,192 tokens. Ghost fields and no
+// `Model`: what a `Model` keeps is not known to the functions that are passed one, and each step rests on these bounds.
 #[derive(Drop)]
 pub(crate) struct Round {
     limit: u16,
@@ -30,7 +31,8 @@ impl Round {
         }
     }
 
-    // Deals `total` tokens over `n` stations, the same to each and one more to the first ones.
+    // Deals `total` tokens over `n` stations, the same to each and one more to the first ones. The two numbers are of no value yet, so
+    // that their bounds are asked here.
     pub(crate) fn dealt(n: usize, total: u16) -> Round
         requires some { 1 ≤ n }
         requires small { n ≤ 64 }

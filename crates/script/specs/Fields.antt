@@ -9,6 +9,6 @@ is_tab c = c == 9
 abbrev pub field : List ℕ → List ℕ
 field line = before_first is_tab line
 
--- what follows the first tab, where there is one
+-- what follows the first tab, where the line has one: the bytes before it are then fewer than the line's
 abbrev pub rest : List ℕ → Option (List ℕ)
 rest line = cond (nat_lt (position_or_len is_tab line) (length line)) (Some (after_first is_tab line)) None

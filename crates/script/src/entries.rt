@@ -10,7 +10,7 @@ use crate::numbers::{read_natural, read_number};
 use crate::refusal::Refusal;
 use sections::{Bridge, Chess, Section};
 
-// A result between two lines of a sheet.
+// A result between two lines of a sheet, in the numbers that `Section::enter` takes.
 #[derive(Clone, Copy, PartialEq, Eq, Debug)]
 pub struct Entry {
     pub a: u32,
@@ -42,7 +42,7 @@ impl ResultField for Bridge {
     }
 }
 
-// A line that enters a result, taken apart.
+// A line that enters a result, taken apart. A function, since it is passed a section by its type alone.
 pub fn read_entry<S: ResultField>(line: &[u8]) -> Option<Entry>
     ensures { result ≡ entry_of S.ResultField.field_result line.now }
 {

@@ -4,7 +4,8 @@ ghost use Rattle.std.proofs.lemmas.List.{length-take-le, take-append-drop};
 
 use std::marker::Model;
 
-// The bytes of a line, at most 80. It is `Copy`, as a line that is being read is, so it is not an `ArrayVec`.
+// The bytes of a line, at most 80. No `ArrayVec`, which is not `Copy`: a `Pending`, which callers may copy,
+// holds one.
 #[derive(Clone, Copy, PartialEq, Eq, Debug)]
 pub(crate) struct Kept {
     cells: [u8; 80],

@@ -5,7 +5,7 @@ ghost use Rattle.script.specs.Letters.{letter_code, chess_result};
 
 use sections::Game;
 
-// The result of a game that a letter names; by the project's rule a `match` on `char` literals.
+// The result of a game that a letter names. A `match` on `char` literals has the letters as they are typed.
 fn game_of(letter: char) -> Option<Game>
     ensures { option_map number_of result ≡ letter_code letter }
 {
@@ -18,7 +18,7 @@ fn game_of(letter: char) -> Option<Game>
     }
 }
 
-// The number of a chess result: one letter, w, d, l or n.
+// The number of a chess result, as `Section::enter` takes it: one letter, w, d, l or n. A function, as those for numbers.
 pub fn read_letter(field: &[u8]) -> Option<i32>
     ensures { result ≡ chess_result field.now }
 {

@@ -1,7 +1,8 @@
 ghost use Rattle.std.specs.Prelude.{◌≡◌, ◌+◌, ◌*◌, ◌^◌, ◌<◌, ◌≤◌, IfSome};
 ghost use Rattle.script.specs.Numbers.{digits_after, natural, number};
 
-// At most `room` digits, read after the number `acc`; by the project's rule a recursion with slice patterns.
+// At most `room` digits, read after the number `acc`. Slice patterns take the field apart as it is read; a loop would carry
+// the same two numbers and count on.
 #[tactic(auto, using(crate::proofs::Digits::digit_steps))]
 fn digits(s: &[u8], acc: u32, room: u32) -> Option<u32>
     requires { (acc + 1) * 10 ^ room ≤ 10 ^ 9 }
@@ -19,7 +20,7 @@ fn digits(s: &[u8], acc: u32, room: u32) -> Option<u32>
     }
 }
 
-// A number of one to nine digits.
+// A number of one to nine digits. A function and no `TryFrom<&[u8]>`, which only std could write for a number.
 pub fn read_natural(field: &[u8]) -> Option<u32>
     ensures value { result ≡ natural field.now }
     ensures bound { IfSome result (λ n. n < 10 ^ 9) }

@@ -25,7 +25,7 @@ impl From<Fault> for Refusal {
 }
 
 impl Refusal {
-    // Number, cause and line. By a name, since `from` would not say what the three numbers are.
+    // Number, cause and line. A triple, by which the contracts of all crates speak of a refusal.
     pub fn code(self) -> (u8, u8, u32)
         ensures { result ≡ refusal_code self }
     {

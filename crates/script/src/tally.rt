@@ -12,8 +12,8 @@ use sections::{Bridge, Chess, Section};
 use std::alloc::{AllocError, Global};
 
 // The scoring of one round: a line names the section, and the lines after it enter results. The sheets of the two sections are of
-// two types, so that each has its case; a `dyn` would need a heap.
-#[derive(Clone, Copy)]
+// two types, so that each has its case; `Section` can be no `dyn`, since `blank` gives a `Self`.
+#[derive(Clone, Copy, Debug, PartialEq, Eq)]
 pub enum Tally {
     Waiting,
     Chess(Chess),

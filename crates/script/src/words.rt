@@ -8,7 +8,8 @@ pub enum Kind {
     Bridge,
 }
 
-// The section that a word names. No `TryFrom<&[u8]>`: an error would say no more than `None`, as in the readers of letters and numbers.
+// The section that a word names. A function and no `TryFrom<&[u8]>`, as those for letters and
+// numbers: an error would say no more than `None`.
 pub fn read_kind(word: &[u8]) -> Option<Kind>
     ensures { result ≡ kind_of word.now }
 {

@@ -1,4 +1,4 @@
-use crate::told::{credited, gains, told, wrong_amount, wrong_entry};
+use crate::told::{credited, gains, told, wrong_row};
 use sections::{Bridge, Section};
 use std::test::Fail;
 
@@ -28,17 +28,17 @@ fn entries(rt: HostRuntime) -> Result<(), Fail> {
     }
     let mut s = Bridge::blank();
     assert_eq!(rt;
-        wrong_entry(
-            &mut s,
+        wrong_row(
+            |(a, b, r)| s.enter(a, b, r),
             &[
-                (4, 5, 15_010, (6, 1, 4)),
-                (4, 5, -15_010, (6, 1, 4)),
-                (4, 5, 15, (6, 1, 4)),
-                (4, 5, -15, (6, 1, 4)),
-                (4, 5, i32::MIN, (6, 1, 4)),
-                (3, 3, 15, (6, 9, 3)),
-                (3, 32, 15, (6, 9, 3)),
-                (32, 3, 15, (6, 9, 32)),
+                ((4, 5, 15_010), (6, 1, 4)),
+                ((4, 5, -15_010), (6, 1, 4)),
+                ((4, 5, 15), (6, 1, 4)),
+                ((4, 5, -15), (6, 1, 4)),
+                ((4, 5, i32::MIN), (6, 1, 4)),
+                ((3, 3, 15), (6, 9, 3)),
+                ((3, 32, 15), (6, 9, 3)),
+                ((32, 3, 15), (6, 9, 32)),
             ]
         ),
         None
@@ -52,31 +52,31 @@ fn entries(rt: HostRuntime) -> Result<(), Fail> {
 fn amounts(rt: HostRuntime) -> Result<(), Fail> {
     let mut s = Bridge::blank();
     assert_eq!(rt;
-        wrong_amount(
-            |line, amount| s.credit(line, amount),
+        wrong_row(
+            |(line, amount)| s.credit(line, amount),
             &[
-                (7, 0, (6, 3, 7)),
-                (7, 1_001, (6, 3, 7)),
-                (7, -1_001, (6, 3, 7)),
-                (32, 0, (6, 9, 32)),
-                (u32::MAX, 1, (6, 9, u32::MAX)),
-                (7, 1_000, (0, 0, 0)),
-                (7, -1, (0, 0, 0)),
+                ((7, 0), (6, 3, 7)),
+                ((7, 1_001), (6, 3, 7)),
+                ((7, -1_001), (6, 3, 7)),
+                ((32, 0), (6, 9, 32)),
+                ((u32::MAX, 1), (6, 9, u32::MAX)),
+                ((7, 1_000), (0, 0, 0)),
+                ((7, -1), (0, 0, 0)),
             ]
         ),
         None
     );
     assert_eq!(rt; s.figure(7)?, 999);
     assert_eq!(rt;
-        wrong_amount(
-            |line, amount| s.debit(line, amount),
+        wrong_row(
+            |(line, amount)| s.debit(line, amount),
             &[
-                (7, 0, (6, 3, 7)),
-                (7, 1_001, (6, 3, 7)),
-                (7, -1_001, (6, 3, 7)),
-                (32, 0, (6, 9, 32)),
-                (7, -1_000, (0, 0, 0)),
-                (7, 1, (0, 0, 0)),
+                ((7, 0), (6, 3, 7)),
+                ((7, 1_001), (6, 3, 7)),
+                ((7, -1_001), (6, 3, 7)),
+                ((32, 0), (6, 9, 32)),
+                ((7, -1_000), (0, 0, 0)),
+                ((7, 1), (0, 0, 0)),
             ]
         ),
         None
@@ -94,14 +94,14 @@ fn figures_at_their_ends(rt: HostRuntime) -> Result<(), Fail> {
     assert_eq!(rt; told(top.credit(0, 1_001)), (6, 3, 0));
     assert_eq!(rt; told(top.debit(0, -1)), (6, 2, 0));
     assert_eq!(rt;
-        wrong_entry(
-            &mut top,
+        wrong_row(
+            |(a, b, r)| top.enter(a, b, r),
             &[
-                (0, 2, 20, (6, 2, 0)),
-                (2, 0, -20, (6, 2, 0)),
-                (0, 2, 25, (6, 1, 0)),
-                (0, 1, 20, (6, 2, 0)),
-                (0, 1, -20, (6, 2, 1)),
+                ((0, 2, 20), (6, 2, 0)),
+                ((2, 0, -20), (6, 2, 0)),
+                ((0, 2, 25), (6, 1, 0)),
+                ((0, 1, 20), (6, 2, 0)),
+                ((0, 1, -20), (6, 2, 1)),
             ]
         ),
         None

@@ -1,4 +1,4 @@
-use sections::{Game, UnknownGame};
+use sections::{Cause, Game};
 use std::test::Fail;
 
 #[test]
@@ -14,7 +14,7 @@ fn the_four_results_of_a_game(rt: HostRuntime) -> Result<(), Fail> {
         assert_eq!(rt; game.half_points(), half_points);
     }
     for number in [-1, 4, i32::MIN, i32::MAX] {
-        assert_eq!(rt; Game::try_from(number), Err(UnknownGame(number)));
+        assert_eq!(rt; Game::try_from(number), Err(Cause::BadResult));
     }
     Ok(())
 }

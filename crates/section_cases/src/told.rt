@@ -1,6 +1,6 @@
 use sections::{Fault, Section};
 
-// Number, cause and line of an answer; all 0 where nothing is refused.
+// Number, cause and line of an answer; all 0 where nothing is refused, so that one table has both.
 pub type Told = (u8, u8, u32);
 
 pub fn told<T: Drop>(answer: Result<T, Fault>) -> Told {
@@ -10,28 +10,17 @@ pub fn told<T: Drop>(answer: Result<T, Fault>) -> Told {
     }
 }
 
-// The answer to the first entry of a table that is not answered as the table says; each is made on the sheet in turn.
-pub fn wrong_entry<S: Section>(s: &mut S, table: &[(u32, u32, i32, Told)]) -> Option<Told> {
-    for (a, b, r, want) in table {
-        let answer = told(s.enter(*a, *b, *r));
-        if answer != *want {
-            return Some(answer);
-        }
-    }
-    None
-}
-
-// The same of debits or credits, each made by `call` in turn.
-pub fn wrong_amount<F: FnMut(u32, i32) -> Result<(), Fault>>(
+// The first row of a table whose call is not answered as the row says, and what it was told; the calls are made in turn.
+pub fn wrong_row<R: Copy, F: FnMut(R) -> Result<(), Fault>>(
     mut call: F,
-    table: &[(u32, i32, Told)],
-) -> Option<Told>
+    table: &[(R, Told)],
+) -> Option<(R, Told)>
     requires { F.IsAlwaysCallable call }
 {
-    for (line, amount, want) in table {
-        let answer = told(call(*line, *amount));
+    for (row, want) in table {
+        let answer = told(call(*row));
         if answer != *want {
-            return Some(answer);
+            return Some((*row, answer));
         }
     }
     None

@@ -11,7 +11,7 @@ use crate::sheet::Sheet;
 pub type Bridge = Sheet<BridgeScoring>;
 
 // The scoring of bridge: IMPs may be owed, so that every figure covers every debit.
-#[derive(Clone, Copy)]
+#[derive(Clone, Copy, Debug, PartialEq, Eq)]
 pub struct BridgeScoring;
 
 impl Scoring for BridgeScoring {

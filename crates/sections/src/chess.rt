@@ -11,7 +11,7 @@ use crate::sheet::Sheet;
 pub type Chess = Sheet<ChessScoring>;
 
 // The scoring of chess.
-#[derive(Clone, Copy)]
+#[derive(Clone, Copy, Debug, PartialEq, Eq)]
 pub struct ChessScoring;
 
 impl Scoring for ChessScoring {

@@ -1,19 +1,19 @@
 ghost use Rattle.std.specs.Prelude.{◌≡◌};
 ghost use Rattle.sections.specs.Codes.{cause_number, fault_code};
 
-// Why a section does not admit a call.
+// Why a section does not admit a call, by its number.
 #[derive(Clone, Copy, PartialEq, Eq, Debug)]
 pub enum Cause {
     // the result of an entry is none that the section knows
-    BadResult,
+    BadResult = 1,
     // a new figure would leave the range
-    OutOfRange,
+    OutOfRange = 2,
     // an amount is none that a slip may carry
-    BadAmount,
+    BadAmount = 3,
     // a debit is more than the line has
-    TooLittle,
+    TooLittle = 4,
     // a line is above 31, or the two lines of an entry are equal
-    BadLines,
+    BadLines = 9,
 }
 
 // A refusal of a section: why, and at which line.
@@ -27,13 +27,7 @@ impl From<Cause> for u8 {
     ghost from_gives = { λ cause number. number ≡ cause_number cause };
 
     fn from(cause: Cause) -> u8 {
-        match cause {
-            Cause::BadResult => 1,
-            Cause::OutOfRange => 2,
-            Cause::BadAmount => 3,
-            Cause::TooLittle => 4,
-            Cause::BadLines => 9,
-        }
+        cause as u8
     }
 }
 
@@ -44,7 +38,7 @@ impl Fault {
         Fault { cause, line }
     }
 
-    // Number, cause and line, as a refusal is told. By a name, since `from` would not say what the three numbers are.
+    // Number, cause and line, as a refusal is told. A triple, by which the contracts of all crates speak of a refusal.
     pub fn code(self) -> (u8, u8, u32)
         ensures { result ≡ fault_code self }
     {

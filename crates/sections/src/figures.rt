@@ -9,7 +9,7 @@ use crate::line::Line;
 use crate::pair::Pair;
 
 // The 32 figures of a sheet, each from -20,000 to 20,000.
-#[derive(Clone, Copy)]
+#[derive(Clone, Copy, Debug, PartialEq, Eq)]
 pub(crate) struct Figures {
     values: [i16; 32],
     ghost size: { length values ≡ 32 },

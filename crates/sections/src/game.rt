@@ -1,15 +1,13 @@
-// What came of a game of chess between two lines.
+use crate::fault::Cause;
+
+// What came of a game of chess between two lines, by its number.
 #[derive(Clone, Copy, Debug, PartialEq, Eq)]
 pub enum Game {
-    SecondWon,
-    Drawn,
-    FirstWon,
-    NobodyScored,
+    SecondWon = 0,
+    Drawn = 1,
+    FirstWon = 2,
+    NobodyScored = 3,
 }
-
-// A number that no result of a game has.
-#[derive(Clone, Copy, Debug, PartialEq, Eq)]
-pub struct UnknownGame(pub i32);
 
 impl Game {
     ghost use Rattle.std.specs.Prelude.{◌≡◌, Some};
@@ -32,17 +30,17 @@ impl Game {
 impl TryFrom<i32> for Game {
     ghost use Rattle.sections.specs.Game.{ReadsGame};
 
-    type Error = UnknownGame;
+    type Error = Cause;
 
     ghost try_from_gives = { ReadsGame };
 
-    fn try_from(number: i32) -> Result<Game, UnknownGame> {
+    fn try_from(number: i32) -> Result<Game, Cause> {
         match number {
             0 => Ok(Game::SecondWon),
             1 => Ok(Game::Drawn),
             2 => Ok(Game::FirstWon),
             3 => Ok(Game::NobodyScored),
-            _ => Err(UnknownGame(number)),
+            _ => Err(Cause::BadResult),
         }
     }
 }
@@ -54,11 +52,6 @@ impl From<Game> for i32 {
     ghost from_gives = { λ game number. number ≡ number_of game };
 
     fn from(game: Game) -> i32 {
-        match game {
-            Game::SecondWon => 0,
-            Game::Drawn => 1,
-            Game::FirstWon => 2,
-            Game::NobodyScored => 3,
-        }
+        game as i32
     }
 }

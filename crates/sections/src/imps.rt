@@ -1,7 +1,8 @@
 ghost use Rattle.std.specs.Prelude.{◌≡◌};
 ghost use Rattle.sections.specs.Bridge.{scale, both_imps};
 
-// The IMPs for the size of a difference in points, or nothing where no board has such a difference.
+// The IMPs for the size of a difference in points, or nothing where no board has such a difference. Ranges in a `match`, where the
+// rule has a list of limits: the proof compares the two texts.
 pub(crate) fn imps_of_size(size: u32) -> Option<i32>
     ensures { result ≡ scale size }
 {

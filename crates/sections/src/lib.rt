@@ -20,7 +20,7 @@ pub use bridge_rule::carries_bridge_rule;
 pub use chess::{Chess, ChessScoring};
 pub use chess_rule::carries_chess_rule;
 pub use fault::{Cause, Fault};
-pub use game::{Game, UnknownGame};
+pub use game::Game;
 pub use scoring::Scoring;
 pub use section::Section;
 pub use sheet::Sheet;

@@ -15,8 +15,8 @@ pub trait Section: Copy {
     fn blank() -> Self
         ensures { figures result ≡ blank_sheet };
 
-    // A result between lines `a` and `b`: each line gains what the rule gives it. Any numbers are met by a result or a refusal, so
-    // they come apart and as numbers.
+    // A result between lines `a` and `b`: each line gains what the rule gives it. Any three numbers are met by a result or a
+    // refusal, so that no type may rule some out; the same holds of line and amount.
     fn enter(&mut self, a: u32, b: u32, r: i32) -> Result<(), Fault>
         ensures { Did figures (rule.entry (figures self.old) a b r) (entered (figures self.old) (rule.gain a b r)) self.old self.new result };
 

@@ -9,7 +9,7 @@ use crate::section::Section;
 use std::marker::PhantomData;
 
 // A sheet of points of one kind of scoring.
-#[derive(Clone, Copy)]
+#[derive(Clone, Copy, Debug, PartialEq, Eq)]
 pub struct Sheet<K: Scoring> {
     figures: Figures,
     scoring: PhantomData<K>,

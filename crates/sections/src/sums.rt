@@ -6,7 +6,7 @@ use crate::fault::Fault;
 use crate::line::Line;
 use crate::section::Section;
 
-// The sum of one line over sheets of any section.
+// The sum of one line over sheets of any section. A `for`, since `figure` may answer a refusal.
 pub fn line_sum<S: Section>(sheets: &[S], line: u32) -> Result<i128, Fault>
     ensures { ReadsLine line result (λ v. v ≡ line_sum S.Section.figures line sheets.now) }
 {
