@@ -13,7 +13,7 @@ use Rattle.house.specs.Names.{find_coloured, slips_of}
 use Rattle.house.specs.Reporting.{heard_questions}
 use Rattle.house.specs.State.{Hall, House, at}
 use Rattle.house.specs.Taking.{take_questions, arrived, taken_hall, under_way}
-use Rattle.house.proofs.Asked.{AllYes}
+use Rattle.common.proofs.AllYes.{AllYes}
 use Rattle.house.proofs.Closed.{close_sound}
 use Rattle.house.proofs.Entries.{enter_sound}
 use Rattle.house.proofs.Halls.{find_coloured_lem}

@@ -3,7 +3,7 @@ use Rattle.std.proofs.Common.{◌≡◌, ℕ, ◌<◌, ◌&&◌, leb, List, [], 
 use Rattle.std.proofs.lemmas.Bool.{true≢false, eqb-true, leb-true, and_parts}
 use Rattle.sections.specs.Rule.{Rule}
 use Rattle.methods.specs.Model.{Model}
-use Rattle.methods.specs.Questions.{first_no}
+use Rattle.common.specs.Questions.{first_no}
 use Rattle.house.specs.declared.phase.Phase.TheVariants.{Closed}
 use Rattle.house.specs.Calls.{Call, Answer, house_questions, method_questions, questions, after, reply, close, nothing}
 use Rattle.house.specs.Changes.{in_phase}
@@ -16,7 +16,7 @@ use Rattle.house.specs.Runs.{outcome, make, step, next, run, only_done, accepted
 use Rattle.house.specs.State.{House}
 use Rattle.house.specs.Statements.{Consistent, CountsAreConsistent, gain_of, ScoresAreGains}
 use Rattle.house.proofs.Accepted.{accepted_sound}
-use Rattle.house.proofs.Asked.{AllYes, all_yes_lem, yes_parts}
+use Rattle.common.proofs.AllYes.{AllYes, all_yes_lem, yes_parts}
 use Rattle.house.proofs.Closed.{consistent, scored}
 use Rattle.house.proofs.Holding.{Holds}
 use Rattle.house.proofs.Made.{made_sound}

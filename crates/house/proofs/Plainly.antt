@@ -4,7 +4,7 @@ use Rattle.std.proofs.lemmas.List.{ext_get_or}
 use Rattle.std.proofs.lemmas.Bool.{true≢false, and_parts}
 use Rattle.sections.specs.Rule.{Rule, admits, entered}
 use Rattle.methods.specs.Model.{Model}
-use Rattle.methods.specs.Questions.{first_no}
+use Rattle.common.specs.Questions.{first_no}
 use Rattle.house.specs.declared.phase.Phase.{Phase}
 use Rattle.house.specs.declared.slip.ColouredSlip.{ColouredSlip}
 use Rattle.house.specs.Calls.{Call, house_questions, method_questions, questions, after, reply, enter, post, take, open', turn, gather, report, close, file}
@@ -20,7 +20,7 @@ use Rattle.house.specs.Statements.{HouseIsItsPlainRun}
 use Rattle.house.specs.Taking.{take_questions, is_late, turns_receiver, arrives, arrives_late, arrived, taken_hall, under_way}
 use Rattle.house.specs.Turning.{turns}
 use Rattle.house.proofs.Accepted.{own_name}
-use Rattle.house.proofs.Asked.{AllYes, all_yes_lem, yes_parts}
+use Rattle.common.proofs.AllYes.{AllYes, all_yes_lem, yes_parts}
 use Rattle.house.proofs.Closed.{fine_blank}
 use Rattle.house.proofs.Halls.{hall_view, find_coloured_lem, slips_less, slips_push}
 use Rattle.house.proofs.Histories.{accepted_holds, made_yes, made_holds, history_holds}

@@ -3,7 +3,7 @@ use Rattle.std.proofs.Common.{ℕ, ◌<◌, Bool, true, false, cond, ltb, length
 use Rattle.sections.specs.Codes.{verdict_code}
 use Rattle.sections.specs.Rule.{Verdict, Rule, admitted, denied}
 use Rattle.methods.specs.Model.{Model}
-use Rattle.methods.specs.Questions.{ask, first_no}
+use Rattle.common.specs.Questions.{ask, number, first_no}
 use Rattle.house.specs.declared.phase.Phase.{Phase}
 use Rattle.house.specs.declared.slip.ColouredSlip.{ColouredSlip}
 use Rattle.house.specs.Asking.{small}
@@ -13,7 +13,8 @@ use Rattle.house.specs.Runs.{past}
 use Rattle.house.specs.State.{Hall, sheet_at}
 use Rattle.house.specs.Statements.{MethodRefusesNothing}
 use Rattle.house.specs.Taking.{is_late, running_after, take_questions, under_way}
-use Rattle.house.proofs.Asked.{all_yes_lem, no_first, Low, low_first}
+use Rattle.common.proofs.AllYes.{all_yes_lem, no_first}
+use Rattle.house.proofs.Asked.{Low, low_first}
 use Rattle.house.proofs.Histories.{history_holds}
 use Rattle.house.proofs.Outcomes.{outcome_refused}
 use Rattle.house.proofs.Willing.{method_yes, house_decides}
@@ -27,7 +28,7 @@ low_take : (rule : Rule) (p : Phase) (h : Hall) (o : Option ColouredSlip) → Lo
 low_take rule p h None = (omega arith, tt)
 low_take rule p h (Some x) = (go (is_late p h x), (low_section (rule.credit (sheet_at h x.slip.receiver) x.slip.line x.slip.amount), tt))
   where
-    go : (b : Bool) → (cond b (ask (ltb (length h.late) h.late_cells) 11) (ask (small (running_after p h x)) 8)).code.0 < 23
+    go : (b : Bool) → (cond b (ask (ltb (length h.late) h.late_cells) (number 11)) (ask (small (running_after p h x)) (number 8))).told.0 < 23
     go true = omega arith
     go false = omega arith
 
