@@ -1,2 +1,3 @@
 pub mod AllYes
 pub mod ScoreLines
+pub mod SameRefusals

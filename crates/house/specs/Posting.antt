@@ -1,12 +1,13 @@
 -- post: an amount leaves a station's sheet, and a slip is under way.
 use Rattle.std.specs.Prelude.{ℕ, ◌+◌, ◌&&◌, List, [], ◌∷◌, ◌++◌, length, ℤ, pos, ◌+ℤ◌, nat_lt}
 use Rattle.sections.specs.Rule.{Rule, debited}
-use Rattle.common.specs.Questions.{Question, Code, ask, number}
+use Rattle.sections.specs.Codes.{section_code}
+use Rattle.common.specs.Questions.{Question, Code, ask, number, told_as}
 use Rattle.house.specs.declared.slip.Slip.{Slip}
 use Rattle.house.specs.declared.station.Station.{Station}
 use Rattle.house.specs.State.{Hall, at, sheet_at}
 use Rattle.house.specs.Changes.{with_sheet, with_station, with_tray}
-use Rattle.house.specs.Asking.{section?, small}
+use Rattle.house.specs.Asking.{small}
 
 -- both stations; the line; fewer than 1,000,000 posts; the deficit afterwards; a free tray cell; the section
 abbrev pub post_questions : Rule → Hall → (s to line : ℕ) (amount : ℤ) → List (Question Code)
@@ -16,8 +17,7 @@ post_questions rule h s to line amount =
     ∷ ask (nat_lt (at h s).posted 1000000) (number 7)
     ∷ ask (small ((at h s).running +ℤ pos 1)) (number 8)
     ∷ ask (nat_lt (length h.tray) h.tray_cells) (number 9)
-    ∷ section? (rule.debit (sheet_at h s) line amount)
-    ∷ []
+    ∷ told_as section_code (rule.debit (sheet_at h s) line amount)
 
 -- posted number and running deficit rise by one
 abbrev pub posted_station : Station → Station

@@ -1,7 +1,8 @@
 -- take: a slip under way arrives at its receiver.
 use Rattle.std.specs.Prelude.{ℕ, ◌+◌, Bool, false, cond, not, ◌&&◌, List, [], ◌∷◌, ◌++◌, length, ℤ, pos, ◌-ℤ◌, Some, None, Option, nat_lt}
 use Rattle.sections.specs.Rule.{Rule, credited}
-use Rattle.common.specs.Questions.{Question, Code, ask, number}
+use Rattle.sections.specs.Codes.{section_code}
+use Rattle.common.specs.Questions.{Question, Code, ask, number, told_as}
 use Rattle.house.specs.declared.phase.Phase.{Phase}
 use Rattle.house.specs.declared.slip.ColouredSlip.{ColouredSlip}
 use Rattle.house.specs.declared.station.Station.{Station}
@@ -9,7 +10,7 @@ use Rattle.house.specs.State.{Hall, at, sheet_at, is_counting}
 use Rattle.house.specs.Changes.{with_sheet, with_station, with_tray, with_late}
 use Rattle.house.specs.Names.{find_coloured, without_coloured}
 use Rattle.house.specs.Colours.{differ}
-use Rattle.house.specs.Asking.{section?, small}
+use Rattle.house.specs.Asking.{small}
 use Rattle.house.specs.Turning.{turns}
 
 -- the slip's colour is not its receiver's
@@ -32,8 +33,7 @@ abbrev pub take_questions : Rule → Phase → Hall → Option ColouredSlip → 
 take_questions rule p h None = ask false (number 10) ∷ []
 take_questions rule p h (Some x) =
     cond (is_late p h x) (ask (nat_lt (length h.late) h.late_cells) (number 11)) (ask (small (running_after p h x)) (number 8))
-    ∷ section? (rule.credit (sheet_at h x.slip.receiver) x.slip.line x.slip.amount)
-    ∷ []
+    ∷ told_as section_code (rule.credit (sheet_at h x.slip.receiver) x.slip.line x.slip.amount)
 
 -- the running deficit falls by one
 abbrev pub took_station : Station → Station

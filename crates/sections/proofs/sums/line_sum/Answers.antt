@@ -11,4 +11,4 @@ loop-s-preserved g c =
     let f = c.in_ok-figure.ensures in
     let k : figure_at (g.S.Section.figures (get_or c.args.sheets.now c.loop-s.s-index c.s-item.result)) c.args.line ≡ c.in_ok-figure.field-0 =
     ap (λ s. figure_at (g.S.Section.figures s) c.args.line) (sym c.s-item.is) ∙ sym f.1 in
-    (f.0, omega (arith, ints), omega (arith, ints), omega (arith, ints))
+    (omega arith, omega (arith, ints), omega (arith, ints), omega (arith, ints))
