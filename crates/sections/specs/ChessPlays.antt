@@ -1,5 +1,6 @@
 -- A sheet that gives half points plays the rule of chess.
 use Rattle.std.proofs.Common.{◌≡◌, ℕ, Bool, true, false, List, ℤ, pos, ◌+ℤ◌, ◌-ℤ◌, neg_ℤ, ◌≤ℤ◌, refl, arith}
+use Rattle.common.specs.Limits.{largest_figure}
 use lib.Signed.{le_z}
 use Rattle.std.proofs.lemmas.Int.{ints}
 use Rattle.sections.specs.Rule.{figure_at, Within}
@@ -9,22 +10,22 @@ use Rattle.sections.specs.Scored.{Plays, AmountsAreSmall, sheet_debit, sheet_cre
 use Rattle.sections.specs.Chess.{chess, chess_entry, chess_debit, chess_credit, is_amount, is_result, half_points}
 
 -- a figure that is not below the range leaves it only at its upper end
-top : (z : ℤ) → neg_ℤ (pos 20000) ≤ℤ z → is_figure z ≡ le_z z (pos 20000)
+top : (z : ℤ) → neg_ℤ (pos largest_figure) ≤ℤ z → is_figure z ≡ le_z z (pos largest_figure)
 top z low = grind (arith, ints)
 
 -- what a result gives is never negative
-gain_in_range : (f : List ℤ) (line k : ℕ) → Within 20000 f → is_figure (figure_at f line +ℤ pos k) ≡ le_z (figure_at f line +ℤ pos k) (pos 20000)
+gain_in_range : (f : List ℤ) (line k : ℕ) → Within largest_figure f → is_figure (figure_at f line +ℤ pos k) ≡ le_z (figure_at f line +ℤ pos k) (pos largest_figure)
 gain_in_range f line k w = let b = w line in top (figure_at f line +ℤ pos k) (omega (arith, ints))
 
 -- nor is the amount of a credit
-credit_in_range : (f : List ℤ) (line : ℕ) (amount : ℤ) → Within 20000 f → is_amount amount ≡ true → is_figure (figure_at f line +ℤ amount) ≡ le_z (figure_at f line +ℤ amount) (pos 20000)
+credit_in_range : (f : List ℤ) (line : ℕ) (amount : ℤ) → Within largest_figure f → is_amount amount ≡ true → is_figure (figure_at f line +ℤ amount) ≡ le_z (figure_at f line +ℤ amount) (pos largest_figure)
 credit_in_range f line amount w h = let b = w line in let positive : pos 0 ≤ℤ amount = grind (arith, ints) in top (figure_at f line +ℤ amount) (omega (arith, ints))
 
 -- nor is the figure after a debit that it covers
-debit_in_range : (f : List ℤ) (line : ℕ) (amount : ℤ) → le_z amount (figure_at f line) ≡ true → is_figure (figure_at f line -ℤ amount) ≡ le_z (figure_at f line -ℤ amount) (pos 20000)
+debit_in_range : (f : List ℤ) (line : ℕ) (amount : ℤ) → le_z amount (figure_at f line) ≡ true → is_figure (figure_at f line -ℤ amount) ≡ le_z (figure_at f line -ℤ amount) (pos largest_figure)
 debit_in_range f line amount h = let covered : amount ≤ℤ figure_at f line = grind (arith, ints) in top (figure_at f line -ℤ amount) (omega (arith, ints))
 
-entry_plays : (f : List ℤ) (a b : ℕ) (r : ℤ) → Within 20000 f → first_no (chess_entry f a b r) ≡ first_no (pair_entry f a b (half_points r))
+entry_plays : (f : List ℤ) (a b : ℕ) (r : ℤ) → Within largest_figure f → first_no (chess_entry f a b r) ≡ first_no (pair_entry f a b (half_points r))
 entry_plays f a b r w = go (is_result r) refl
   where
     go : (t : Bool) → is_result r ≡ t → first_no (chess_entry f a b r) ≡ first_no (pair_entry f a b (half_points r))
@@ -38,7 +39,7 @@ debit_plays f line amount = go (le_z amount (figure_at f line)) refl
     go true p = rw (debit_in_range f line amount p)
     go false p = rw p
 
-credit_plays : (f : List ℤ) (line : ℕ) (amount : ℤ) → Within 20000 f → first_no (chess_credit f line amount) ≡ first_no (sheet_credit is_amount f line amount)
+credit_plays : (f : List ℤ) (line : ℕ) (amount : ℤ) → Within largest_figure f → first_no (chess_credit f line amount) ≡ first_no (sheet_credit is_amount f line amount)
 credit_plays f line amount w = go (is_amount amount) refl
   where
     go : (t : Bool) → is_amount amount ≡ t → first_no (chess_credit f line amount) ≡ first_no (sheet_credit is_amount f line amount)

@@ -1,14 +1,13 @@
 -- What is asked of an entry that gives an amount to each of two lines.
 use Rattle.std.specs.Prelude.{ℕ, Bool, false, cond, ◌&&◌, List, [], ◌∷◌, ℤ, pos, ◌+ℤ◌, neg_ℤ, Some, None, Option, ◌==◌, int_le}
+use Rattle.common.specs.Ranges.{up_to}
+use Rattle.common.specs.Limits.{largest_figure}
 use Rattle.common.specs.Questions.{ask}
 use Rattle.sections.specs.Rule.{SectionQuestions, good_lines, figure_at}
 
-abbrev pub between : ℤ → ℤ → ℤ → Bool
-between low high z = int_le low z && int_le z high
-
 -- the range of every figure
 abbrev pub is_figure : ℤ → Bool
-is_figure z = between (neg_ℤ (pos 20000)) (pos 20000) z
+is_figure z = up_to (pos largest_figure) z
 
 -- what is asked of a new figure of a line
 abbrev pub figure_questions : (figure : ℤ) (line : ℕ) → SectionQuestions

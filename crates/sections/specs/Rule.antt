@@ -1,5 +1,6 @@
 -- A section's meaning: the figures of a sheet, and the rule that says what a call is asked and what an entry gains.
 use Rattle.std.specs.Prelude.{◌≡◌, ℕ, ◌+◌, Bool, false, not, ◌&&◌, List, [], ◌∷◌, replicate, ℤ, pos, ◌+ℤ◌, ◌-ℤ◌, neg_ℤ, ◌≤ℤ◌, ◌==◌, nat_lt, slice_index_or, slice_set, Some}
+use Rattle.common.specs.Limits.{line_count}
 use Rattle.common.specs.Questions.{Question, first_no}
 
 -- what a section asks of one call; a no tells the cause and the line of the fault
@@ -16,7 +17,7 @@ pub record Rule : Type 0 where
 
 -- a sheet has 32 lines; a blank one has 0 at each
 abbrev pub blank_sheet : List ℤ
-blank_sheet = replicate 32 (pos 0)
+blank_sheet = replicate line_count (pos 0)
 
 abbrev pub figure_at : List ℤ → ℕ → ℤ
 figure_at f line = slice_index_or f line (pos 0)
@@ -38,7 +39,7 @@ credited f line amount = slice_set f line (figure_at f line +ℤ amount)
 
 -- two lines of a sheet that differ
 abbrev pub good_lines : ℕ → ℕ → Bool
-good_lines a b = nat_lt a 32 && (nat_lt b 32 && not (a == b))
+good_lines a b = nat_lt a line_count && (nat_lt b line_count && not (a == b))
 
 -- each figure is from -n to n
 abbrev pub Within : ℕ → List ℤ → Type 0
@@ -47,5 +48,5 @@ Within n f = (line : ℕ) → (neg_ℤ (pos n) ≤ℤ figure_at f line) × (figu
 -- what every rule asks before anything else: a line above 31, and equal lines in an entry, are cause 9
 pub record Lawful (rule : Rule) : Type 0 where
   pub entry_lines : (f : List ℤ) (a b : ℕ) (r : ℤ) → good_lines a b ≡ false → first_no (rule.entry f a b r) ≡ Some (9, a)
-  pub debit_line : (f : List ℤ) (line : ℕ) (amount : ℤ) → nat_lt line 32 ≡ false → first_no (rule.debit f line amount) ≡ Some (9, line)
-  pub credit_line : (f : List ℤ) (line : ℕ) (amount : ℤ) → nat_lt line 32 ≡ false → first_no (rule.credit f line amount) ≡ Some (9, line)
+  pub debit_line : (f : List ℤ) (line : ℕ) (amount : ℤ) → nat_lt line line_count ≡ false → first_no (rule.debit f line amount) ≡ Some (9, line)
+  pub credit_line : (f : List ℤ) (line : ℕ) (amount : ℤ) → nat_lt line line_count ≡ false → first_no (rule.credit f line amount) ≡ Some (9, line)

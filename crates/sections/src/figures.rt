@@ -1,10 +1,12 @@
 ghost use Rattle.std.specs.Prelude.{◌≡◌, length, ◌+ℤ◌, Some, slice_set};
+ghost use Rattle.common.specs.Limits.{line_count, largest_figure};
 ghost use Rattle.sections.specs.Rule.{Within, blank_sheet, figure_at, entered, credited};
 ghost use Rattle.sections.specs.Lines.{ReadsLine};
 ghost use Rattle.common.specs.Did.{Did};
 ghost use Rattle.sections.specs.Codes.{cause_and_line};
 ghost use Rattle.sections.specs.Judged.{figure_questions, pair_gains, pair_entry};
 
+use common::limits::{LARGEST_FIGURE, LINES};
 use crate::fault::{Cause, Fault};
 use crate::line::Line;
 use crate::pair::Pair;
@@ -12,16 +14,16 @@ use crate::pair::Pair;
 // The 32 figures of a sheet, each from -20,000 to 20,000.
 #[derive(Clone, Copy)]
 pub(crate) struct Figures {
-    values: [i16; 32],
-    ghost size: { length values ≡ 32 },
-    ghost range: { Within 20000 values },
+    values: [i16; LINES as usize],
+    ghost size: { length values ≡ line_count },
+    ghost range: { Within largest_figure values },
 }
 
 impl Figures {
     pub(crate) fn zero() -> Figures
         ensures { result.values ≡ blank_sheet }
     {
-        Figures { values: [0; 32] }
+        Figures { values: [0; LINES as usize] }
     }
 
     pub(crate) fn at(&self, line: Line) -> i32
@@ -42,7 +44,7 @@ impl Figures {
     fn put(&mut self, line: Line, figure: i64) -> Result<(), Fault>
         ensures { Did (figure_questions figure line.number) cause_and_line (λ _. self.new.values ≡ slice_set self.old.values line.number figure) self.old self.new result }
     {
-        if !(-20_000..=20_000).contains(&figure) {
+        if !(-LARGEST_FIGURE..=LARGEST_FIGURE).contains(&figure) {
             return Err(Fault::new(Cause::OutOfRange, line.number()));
         }
         // that the figure fits in 16 bits is proved of the cast; `try_from` would ask it a second time

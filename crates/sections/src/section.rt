@@ -1,4 +1,5 @@
 ghost use Rattle.std.specs.Prelude.{◌≡◌, List, length, ℤ};
+ghost use Rattle.common.specs.Limits.{line_count, largest_figure};
 ghost use Rattle.sections.specs.Rule.{Rule, Lawful, Within, blank_sheet, figure_at, entered, debited, credited};
 ghost use Rattle.sections.specs.Lines.{ReadsLine};
 ghost use Rattle.common.specs.Did.{Did};
@@ -33,9 +34,9 @@ pub trait Section: Copy {
     fn figure(&self, line: u32) -> Result<i32, Fault>
         ensures { ReadsLine line result (λ v. v ≡ figure_at (figures self.now) line) };
 
-    ghost lines: { (s : Self) → length (figures s) ≡ 32 };
+    ghost lines: { (s : Self) → length (figures s) ≡ line_count };
 
-    ghost bounded: { (s : Self) → Within 20000 (figures s) };
+    ghost bounded: { (s : Self) → Within largest_figure (figures s) };
 
     ghost lawful: { Lawful rule };
 }

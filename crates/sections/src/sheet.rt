@@ -1,4 +1,5 @@
 ghost use Rattle.std.specs.Prelude.{◌≡◌, ◌<◌, ◌≤◌, true, false, IfOk, IfErr};
+ghost use Rattle.common.specs.Limits.{line_count};
 ghost use Rattle.sections.specs.Codes.{fault_code};
 
 use crate::fault::{Cause, Fault};
@@ -18,9 +19,9 @@ pub struct Sheet<K: Scoring> {
 impl<K: Scoring> Sheet<K> {
     // The line of a debit or a credit, whose amount a slip may carry.
     fn line_of_amount(line: u32, amount: i32) -> Result<Line, Fault>
-        ensures granted { IfOk result (λ at. (line < 32) × (K.is_amount amount ≡ true) × (at.number ≡ line)) }
-        ensures bad_line { IfErr result (λ f. 32 ≤ line → fault_code f ≡ (6, 9, line)) }
-        ensures bad_amount { IfErr result (λ f. line < 32 → (K.is_amount amount ≡ false) × (fault_code f ≡ (6, 3, line))) }
+        ensures granted { IfOk result (λ at. (line < line_count) × (K.is_amount amount ≡ true) × (at.number ≡ line)) }
+        ensures bad_line { IfErr result (λ f. line_count ≤ line → fault_code f ≡ (6, 9, line)) }
+        ensures bad_amount { IfErr result (λ f. line < line_count → (K.is_amount amount ≡ false) × (fault_code f ≡ (6, 3, line))) }
     {
         let at = Line::new(line)?;
         if !K::is_amount(amount) {
