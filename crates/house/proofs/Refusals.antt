@@ -6,7 +6,7 @@ use Rattle.methods.specs.Model.{Model}
 use Rattle.common.specs.Questions.{ask, number, told_as, first_no}
 use Rattle.house.specs.declared.phase.Phase.{Phase}
 use Rattle.house.specs.declared.slip.ColouredSlip.{ColouredSlip}
-use Rattle.house.specs.Asking.{small}
+use Rattle.house.specs.Asking.{is_deficit}
 use Rattle.house.specs.Calls.{Call, house_questions, method_questions, questions, after, reply, enter, post, take, open', turn, gather, report, close, file}
 use Rattle.house.specs.Cut.{cut_of}
 use Rattle.house.specs.Runs.{past}
@@ -28,7 +28,7 @@ low_take : (rule : Rule) (p : Phase) (h : Hall) (o : Option ColouredSlip) → Lo
 low_take rule p h None = (omega arith, tt)
 low_take rule p h (Some x) = (go (is_late p h x), (low_section (rule.credit (sheet_at h x.slip.receiver) x.slip.line x.slip.amount)))
   where
-    go : (b : Bool) → (cond b (ask (ltb (length h.late) h.late_cells) (number 11)) (ask (small (running_after p h x)) (number 8))).told.0 < 23
+    go : (b : Bool) → (cond b (ask (ltb (length h.late) h.late_cells) (number 11)) (ask (is_deficit (running_after p h x)) (number 8))).told.0 < 23
     go true = omega arith
     go false = omega arith
 

@@ -1,5 +1,6 @@
 -- The text of a count: lines of a word and numbers, parted by tabs, each ended by a line feed.
 use Rattle.std.specs.Prelude.{ℕ, zero, suc, ◌+◌, Bool, cond, ◌&&◌, List, [], ◌∷◌, ◌++◌, ℤ, pos, ◌+ℤ◌, codes, decimal, ◌==◌, int_le}
+use Rattle.common.specs.Limits.{line_count}
 use Rattle.std.specs.Fmt.{signed_decimal}
 use Rattle.sections.specs.Rule.{figure_at}
 use Rattle.house.specs.declared.slip.Slip.{Slip}
@@ -63,4 +64,4 @@ score_lines (suc lines) k score_of = cond (is_zero (score_of k)) [] (score_line 
 
 -- the record by station and line, the late slips as they arrived, the scores by line, end
 abbrev pub count_text : (recorded : List (List ℤ)) (late : List Slip) → List ℕ
-count_text recorded late = record_lines 0 recorded ++ (slip_lines late ++ (score_lines 32 0 (score recorded late) ++ (codes "end" ++ (10 ∷ []))))
+count_text recorded late = record_lines 0 recorded ++ (slip_lines late ++ (score_lines line_count 0 (score recorded late) ++ (codes "end" ++ (10 ∷ []))))

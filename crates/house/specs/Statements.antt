@@ -1,5 +1,6 @@
 -- What is proved of every count, for every list of calls from a made house.
 use Rattle.std.specs.Prelude.{◌≡◌, ℕ, ◌<◌, true, false, ◌↔◌, List, ◌++◌, map, ℤ, pos, None}
+use Rattle.common.specs.Limits.{line_count}
 use Rattle.std.specs.List.{AllByRecursion}
 use Rattle.std.specs.List.Sorted.{IsPermutation}
 use Rattle.sections.specs.Rule.{Rule}
@@ -57,7 +58,7 @@ gain_of rule line (takes a b) = pos 0
 -- each line's score is what the entries before the turns gave it
 abbrev pub ClosesWithScores : (m : Model) → Rule → (x y : House m.State) → Type 0
 ClosesWithScores m rule x y =
-    (history : History m rule x) (line : ℕ) → line < 32 →
+    (history : History m rule x) (line : ℕ) → line < line_count →
     score y.hall.recorded (slips_of y.hall.late) line ≡ sum_of (gain_of rule line) (cut_of (past m rule x history)).before
 
 -- at every granted close

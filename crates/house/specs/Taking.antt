@@ -10,7 +10,7 @@ use Rattle.house.specs.State.{Hall, at, sheet_at, is_counting}
 use Rattle.house.specs.Changes.{with_sheet, with_station, with_tray, with_late}
 use Rattle.house.specs.Names.{find_coloured, without_coloured}
 use Rattle.house.specs.Colours.{differ}
-use Rattle.house.specs.Asking.{small}
+use Rattle.house.specs.Asking.{is_deficit}
 use Rattle.house.specs.Turning.{turns}
 
 -- the slip's colour is not its receiver's
@@ -32,7 +32,7 @@ running_after p h x = cond (turns_receiver p h x) (pos 0) (at h x.slip.receiver)
 abbrev pub take_questions : Rule → Phase → Hall → Option ColouredSlip → List (Question Code)
 take_questions rule p h None = ask false (number 10) ∷ []
 take_questions rule p h (Some x) =
-    cond (is_late p h x) (ask (nat_lt (length h.late) h.late_cells) (number 11)) (ask (small (running_after p h x)) (number 8))
+    cond (is_late p h x) (ask (nat_lt (length h.late) h.late_cells) (number 11)) (ask (is_deficit (running_after p h x)) (number 8))
     ∷ told_as section_code (rule.credit (sheet_at h x.slip.receiver) x.slip.line x.slip.amount)
 
 -- the running deficit falls by one

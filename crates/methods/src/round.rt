@@ -1,4 +1,5 @@
 ghost use Rattle.std.specs.Prelude.{◌≡◌, ◌+◌, ◌<◌, ◌≤◌, [], length, sum};
+ghost use Rattle.common.specs.Limits.{most_stations, most_arrivals};
 ghost use Rattle.methods.specs.Deal.{new_round};
 ghost use Rattle.methods.specs.Split.{after_split, paid};
 ghost use Rattle.methods.specs.Swap.{exchange};
@@ -7,14 +8,15 @@ ghost use Rattle.methods.specs.Tokens.{green, tokens_at};
 use crate::deal::{dealt_to, limit_of};
 use crate::split::split;
 use arrayvec::ArrayVec;
+use common::limits::MOST_STATIONS;
 
 // A round of the token tree: its limit, and the tokens of each station. At most 64 stations and 8,192 tokens.
 #[derive(Drop)]
 pub(crate) struct Round {
     limit: u16,
-    tokens: ArrayVec<u16, 64>,
-    ghost small: { length tokens.items ≤ 64 },
-    ghost few: { sum tokens.items ≤ 8192 },
+    tokens: ArrayVec<u16, MOST_STATIONS>,
+    ghost small: { length tokens.items ≤ most_stations },
+    ghost few: { sum tokens.items ≤ most_arrivals },
 }
 
 impl Round {
@@ -33,8 +35,8 @@ impl Round {
     // Deals `total` tokens over `n` stations, the same to each and one more to the first ones.
     pub(crate) fn dealt(n: usize, total: u16) -> Round
         requires some { 1 ≤ n }
-        requires small { n ≤ 64 }
-        requires few { total ≤ 8192 }
+        requires small { n ≤ most_stations }
+        requires few { total ≤ most_arrivals }
         ensures { held result ≡ new_round n total }
     {
         let mut tokens = ArrayVec::new();
@@ -49,7 +51,7 @@ impl Round {
 
     pub(crate) fn stations(&self) -> usize
         ensures count { result ≡ length (held self.now).tokens }
-        ensures small { result ≤ 64 }
+        ensures small { result ≤ most_stations }
     {
         self.tokens.len()
     }
@@ -71,7 +73,7 @@ impl Round {
     // The tokens of all stations together.
     pub(crate) fn total(&self) -> u32
         ensures sum { result ≡ sum (held self.now).tokens }
-        ensures few { result ≤ 8192 }
+        ensures few { result ≤ most_arrivals }
     {
         self.tokens.iter().map(|t| u32::from(*t)).sum()
     }

@@ -1,5 +1,6 @@
 -- Ten worked cases of the rules, for chess, for bridge and for the token tree.
 use Rattle.std.specs.Prelude.{ℕ, ◌≤◌, ◌≡◌, List, [], ◌∷◌, ℤ, pos, neg_ℤ, Some, None, slice_set}
+use Rattle.common.specs.Limits.{most_stations}
 use Rattle.common.specs.Questions.{first_no}
 use Rattle.sections.specs.Rule.{Rule, blank_sheet, entered, figure_at}
 use Rattle.sections.specs.Chess.{chess}
@@ -43,4 +44,4 @@ pub record WorkedCases : Type 0 where
   pub tree_of_3_deals_5_as_2_2_1 : (begun tree_model 3 5).tokens ≡ 2 ∷ 2 ∷ 1 ∷ []
   pub then_arrivals_at_2_2_1_1_0_cost_0_4_0_12_8 : sent_at tree_model (begun tree_model 3 5) (2 ∷ 2 ∷ 1 ∷ 1 ∷ 0 ∷ []) ≡ 0 ∷ 4 ∷ 0 ∷ 12 ∷ 8 ∷ []
   pub tree_of_4_with_1_an_arrival_at_3_costs_13 : sent_at tree_model (begun tree_model 4 1) (3 ∷ []) ≡ 13 ∷ []
-  pub nothing_to_wait_for_sends_nothing : (n : ℕ) → 1 ≤ n → n ≤ 64 → (tree_model.outstanding (begun tree_model n 0) ≡ 0) × (tree_model.begin_sent tree_model.fresh n 0 ≡ 0)
+  pub nothing_to_wait_for_sends_nothing : (n : ℕ) → 1 ≤ n → n ≤ most_stations → (tree_model.outstanding (begun tree_model n 0) ≡ 0) × (tree_model.begin_sent tree_model.fresh n 0 ≡ 0)
