@@ -8,7 +8,8 @@ use Rattle.house.specs.declared.phase.Phase.TheVariants.{Closed}
 use Rattle.house.specs.Calls.{Call, Answer, house_questions, method_questions, questions, after, reply, close, nothing}
 use Rattle.house.specs.Changes.{in_phase}
 use Rattle.house.specs.Closing.{close_questions}
-use Rattle.house.specs.CountText.{sum_of, score}
+use Rattle.common.specs.Sums.{sum_of}
+use Rattle.house.specs.CountText.{score}
 use Rattle.house.specs.Cut.{Cut, no_cut, cut_after, cut_after_all, cut_of}
 use Rattle.house.specs.Making.{make_questions, made_house}
 use Rattle.house.specs.Names.{slips_of}

@@ -10,7 +10,8 @@ use Rattle.house.specs.Names.{slips_of}
 use Rattle.house.specs.State.{Hall, House, is_counting}
 use Rattle.house.specs.Calls.{Call, enter, post, take, open', turn, gather, report, close, file, Answer, nothing, number, sum, sent, receipt, filed, house_questions, method_questions}
 use Rattle.house.specs.Runs.{done, refused, make, step, run, Told, told_no, told_ok, all_told, accepted, is_done, History, past}
-use Rattle.house.specs.CountText.{sum_of, score}
+use Rattle.common.specs.Sums.{sum_of}
+use Rattle.house.specs.CountText.{score}
 use Rattle.house.specs.Filing.{text_of}
 use Rattle.house.specs.PlainHouse.{Event, enters, posts, takes, blank, plain_run, RefusesNone}
 use Rattle.house.specs.Cut.{cut_of}

@@ -9,7 +9,7 @@ use Rattle.script.specs.Entries.{entry_of}
 use Rattle.script.specs.Lines.{line_questions, line_entered}
 use Rattle.script.specs.Letters.{chess_result}
 use Rattle.script.specs.Numbers.{number}
-use Rattle.script.specs.Texts.{scores_text}
+use Rattle.script.specs.Texts.{sheet_scores}
 use Rattle.script.specs.Words.{kind_of}
 use Rattle.script.specs.declared.entries.Entry.{Entry}
 use Rattle.script.specs.declared.refusal.Refusal.{Refusal}
@@ -58,4 +58,4 @@ played (playing kind f) (Some line) = played_entry kind f (entry_of (result_of k
 -- what is told at the end
 abbrev pub end_text : Round → List ℕ
 end_text waiting = []
-end_text (playing kind f) = scores_text f 32
+end_text (playing kind f) = sheet_scores f
