@@ -1,6 +1,7 @@
 -- No question is answered no exactly where all are answered yes.
 use Rattle.std.proofs.Common.{◌≡◌, ℕ, Bool, true, false, cond, List, [], ◌∷◌, ◌++◌, Some, None, refl, arith}
-use Rattle.common.specs.Questions.{Question, first_no, all_yes}
+use Rattle.std.specs.Option.{option_map}
+use Rattle.common.specs.Questions.{Question, told_as, first_no, all_yes}
 
 abbrev pub AllYes : {C : Type 0} → List (Question C) → Type 0
 AllYes [] = Unit {0}
@@ -35,3 +36,16 @@ first_decide (q ∷ qs) rs h = go q.yes? refl (λ t. first_decide qs rs (λ y. h
     go : (b : Bool) → q.yes? ≡ b → (q.yes? ≡ true → first_no (qs ++ rs) ≡ first_no qs) → cond q.yes? (first_no (qs ++ rs)) (Some q.told) ≡ cond q.yes? (first_no qs) (Some q.told)
     go true t ih = rw t (ih t)
     go false t ih = rw t
+
+-- questions told in another way are answered as they were
+pub told_tested : {C D : Type 0} (f : C → D) (qs : List (Question C)) → AllYes (told_as f qs) → all_yes qs ≡ true
+told_tested f [] y = refl
+told_tested f (q ∷ qs) y = rw y.0 (told_tested f qs y.1)
+
+pub first_told : {C D : Type 0} (f : C → D) (qs : List (Question C)) → first_no (told_as f qs) ≡ option_map f (first_no qs)
+first_told f [] = refl
+first_told f (q ∷ qs) = go q.yes? (first_told f qs)
+  where
+    go : (b : Bool) → first_no (told_as f qs) ≡ option_map f (first_no qs) → cond b (first_no (told_as f qs)) (Some (f q.told)) ≡ option_map f (cond b (first_no qs) (Some q.told))
+    go true ih = ih
+    go false ih = refl

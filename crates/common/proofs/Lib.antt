@@ -1,2 +1,4 @@
 pub mod AllYes
 pub mod ScoreLines
+pub mod SameRefusals
+pub mod Sums

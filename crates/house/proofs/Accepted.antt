@@ -1,6 +1,7 @@
 -- Every accepted call keeps the invariant.
 use Rattle.std.proofs.Common.{◌≡◌, ℕ, ◌+◌, ◌*◌, Bool, true, false, cond, eqb, List, pos, nat_abs, Some, None, Option, sym, refl, ap, ◌∙◌, subst}
 use Rattle.std.proofs.lemmas.Bool.{true≢false, eqb-true, ltb-true, and_parts, not-true}
+use Rattle.sections.specs.Codes.{section_code}
 use Rattle.sections.specs.Rule.{Rule}
 use Rattle.methods.specs.Model.{Model, begin_questions}
 use Rattle.house.specs.declared.phase.Phase.{Phase}
@@ -11,9 +12,9 @@ use Rattle.house.specs.Cut.{Cut, cut_after}
 use Rattle.house.specs.Gathering.{gathered_below, gather_questions, sum_at, gathered_hall, root_questions, root_gathers, after_gather}
 use Rattle.house.specs.Names.{find_coloured, slips_of}
 use Rattle.house.specs.Reporting.{heard_questions}
-use Rattle.house.specs.State.{Hall, House, at}
+use Rattle.house.specs.State.{Hall, House, at, sheet_at}
 use Rattle.house.specs.Taking.{take_questions, arrived, taken_hall, under_way}
-use Rattle.house.proofs.Asked.{AllYes}
+use Rattle.common.proofs.AllYes.{AllYes, told_tested}
 use Rattle.house.proofs.Closed.{close_sound}
 use Rattle.house.proofs.Entries.{enter_sound}
 use Rattle.house.proofs.Halls.{find_coloured_lem}
@@ -39,7 +40,7 @@ module _ (rule : Rule) (c : Cut) (p : Phase) (h : Hall) (out : ℕ) (so : Sound 
   taken_sound a b None s y = absurd (true≢false (sym y.0))
   taken_sound a b (Some x) s y =
       let n = find_named a b (slips_of h.tray) x.slip (find_coloured_lem a b h.tray x s) in
-      let t = take_sound rule c p h out so x (own_name a b h.tray x s) y.1.0 in
+      let t = take_sound rule c p h out so x (own_name a b h.tray x s) (told_tested section_code (rule.credit (sheet_at h x.slip.receiver) x.slip.line x.slip.amount) y.1) in
       subst (λ k. Sound rule (cut_after c (take k b)) p (arrived p h x) out) n.0 (subst (λ k. Sound rule (cut_after c (take x.slip.sender k)) p (arrived p h x) out) n.1 t)
 
 -- what the method owes after a begin and after an arrival
@@ -89,10 +90,10 @@ module _ (m : Model) (ml : models.Lawful m) (rule : Rule) (c : Cut) (x : House m
       go false e = gathers x.hall.messages _ (λ f. absurd (true≢false (sym f ∙ e))) (λ _. refl)
 
   pub accepted_sound : (call : Call) → AllYes (house_questions rule x.phase x.hall (m.outstanding x.method) call) → AllYes (method_questions m x call) → Sound rule (cut_after c call) (after m rule x call).phase (after m rule x call).hall (m.outstanding (after m rule x call).method)
-  accepted_sound (enter s a b r) y z = enter_sound rule c p h out k.sound s a b r (ltb-true s h.n y.0) y.1.1.0
+  accepted_sound (enter s a b r) y z = enter_sound rule c p h out k.sound s a b r (ltb-true s h.n y.0) (told_tested section_code (rule.entry (sheet_at h s) a b r) y.1.1)
   accepted_sound (post s to line amount) y z =
       let q = and_parts _ _ y.0 in
-      post_sound rule c p h out k.sound s to line amount (ltb-true s h.n q.0) (ltb-true to h.n q.1) y.1.1.1.1.1.0
+      post_sound rule c p h out k.sound s to line amount (ltb-true s h.n q.0) (ltb-true to h.n q.1) (told_tested section_code (rule.debit (sheet_at h s) line amount) y.1.1.1.1.1)
   accepted_sound (take a b) y z = taken_sound rule c p h out k.sound a b (under_way h a b) refl y
   accepted_sound (open' s) y z = open_sound rule c p h out k.sound s (ltb-true s h.n y.0) (is_ready_lem p y.1.0)
   accepted_sound (turn s) y z =

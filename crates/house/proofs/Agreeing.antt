@@ -3,7 +3,7 @@ use Rattle.std.proofs.Common.{◌≡◌, ℕ, ◌+◌, Bool, true, false, cond, 
 use Rattle.std.proofs.lemmas.Bool.{eqb-true}
 use Rattle.sections.specs.Rule.{Rule}
 use Rattle.methods.specs.Model.{Model}
-use Rattle.methods.specs.Questions.{first_no}
+use Rattle.common.specs.Questions.{first_no}
 use Rattle.house.specs.declared.phase.Phase.{Phase}
 use Rattle.house.specs.declared.phase.Phase.TheVariants.{Ready, Counting, Closed}
 use Rattle.house.specs.declared.slip.ColouredSlip.{ColouredSlip}
@@ -22,7 +22,7 @@ use Rattle.house.specs.Statements.{messages_aside, told_aside, MethodsAgree}
 use Rattle.house.specs.Taking.{is_late, turns_receiver, take_questions, arrives, arrives_late, taken_hall, under_way}
 use Rattle.house.specs.Turning.{turns}
 use Rattle.house.proofs.Accepted.{begun_left, heard_left}
-use Rattle.house.proofs.Asked.{AllYes, all_yes_lem, yes_parts}
+use Rattle.common.proofs.AllYes.{AllYes, all_yes_lem, yes_parts}
 use Rattle.house.proofs.Histories.{accepted_holds, made_yes, made_holds}
 use Rattle.house.proofs.Holding.{Holds}
 use Rattle.house.proofs.Willing.{house_decides}

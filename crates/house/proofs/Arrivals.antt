@@ -2,7 +2,8 @@
 use Rattle.std.proofs.Common.{◌≡◌, ℕ, ◌+◌, ◌<◌, ◌≤◌, Bool, true, false, cond, not, [], ◌∷◌, ◌++◌, length, pos, ◌-ℤ◌, Some, None, sym, refl, ap, ◌∙◌, subst, arith}
 use Rattle.std.proofs.lemmas.List.{length-set, length_push}
 use Rattle.std.proofs.lemmas.Int.{ints}
-use Rattle.sections.specs.Rule.{Rule, admits}
+use Rattle.common.specs.Questions.{all_yes}
+use Rattle.sections.specs.Rule.{Rule}
 use Rattle.house.specs.declared.phase.Phase.{Phase}
 use Rattle.house.specs.declared.slip.ColouredSlip.{ColouredSlip}
 use Rattle.house.specs.declared.slip.Slip.{Slip}
@@ -23,7 +24,7 @@ use Rattle.house.proofs.Split.{pending, split_later, split_sooner}
 use Rattle.house.proofs.Totals.{sum_z, sum_z_put, count, count_less}
 use Rattle.house.proofs.Views.{Acts, takes'}
 
-module _ (r : Rule) (c : Cut) (p : Phase) (h : Hall) (out : ℕ) (so : Sound r c p h out) (x : ColouredSlip) (has : find x.slip.sender x.slip.number (slips_of h.tray) ≡ Some x.slip) (yes' : admits (r.credit (sheet_at h x.slip.receiver) x.slip.line x.slip.amount) ≡ true) where
+module _ (r : Rule) (c : Cut) (p : Phase) (h : Hall) (out : ℕ) (so : Sound r c p h out) (x : ColouredSlip) (has : find x.slip.sender x.slip.number (slips_of h.tray) ≡ Some x.slip) (yes' : all_yes (r.credit (sheet_at h x.slip.receiver) x.slip.line x.slip.amount) ≡ true) where
   within : x.slip.receiver < h.n
   within = so.common.naming.meant x.slip.sender x.slip.number x.slip has
 

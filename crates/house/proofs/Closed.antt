@@ -1,5 +1,5 @@
 -- Where close is granted every station has turned, no old slip is under way, and the count is a cut.
-use Rattle.std.proofs.Common.{◌≡◌, ℕ, zero, suc, ◌+◌, ◌<◌, Bool, true, false, cond, not, List, [], ◌∷◌, ◌++◌, length, get_or, replicate, pos, ◌+ℤ◌, Some, None, sym, refl, ap, ◌∙◌, subst, arith}
+use Rattle.std.proofs.Common.{ℤ, ◌≡◌, ℕ, zero, suc, ◌+◌, ◌<◌, Bool, true, false, cond, not, List, [], ◌∷◌, ◌++◌, length, get_or, replicate, pos, ◌+ℤ◌, Some, None, sym, refl, ap, ◌∙◌, subst, arith}
 use Rattle.std.proofs.ByRecursion.{All-map}
 use Rattle.std.proofs.lemmas.List.{length-replicate, ext_get_or}
 use Rattle.std.proofs.lemmas.Int.{ints}
@@ -12,7 +12,9 @@ use Rattle.house.specs.declared.phase.Phase.{Phase}
 use Rattle.house.specs.declared.phase.Phase.TheVariants.{Closed}
 use Rattle.house.specs.declared.slip.ColouredSlip.{ColouredSlip}
 use Rattle.house.specs.declared.slip.Slip.{Slip}
-use Rattle.house.specs.CountText.{sum_of, on_sheets, on_slip, score}
+use Rattle.common.specs.Sums.{sum_of}
+use Rattle.sections.specs.Sums.{line_sum}
+use Rattle.house.specs.CountText.{on_slip, score}
 use Rattle.house.specs.Cut.{Cut}
 use Rattle.house.specs.Names.{find, slips_of}
 use Rattle.house.specs.PlainHouse.{PlainHouse, blank}
@@ -129,7 +131,7 @@ module _ (r : Rule) (c : Cut) (p : Phase) (h : Hall) (out : ℕ) (so : Sound r c
     pub scored : (line : ℕ) → line < 32 → score h.recorded (slips_of h.late) line ≡ sum_of (gain_of r line) c.before
     scored line short =
         let kept = first.4 line short in
-        let a = ap (on_sheets line) first_sheets in
+        let a = ap (line_sum (λ (f : List ℤ). f) line) first_sheets in
         let b = sum_shuffled (on_slip line) first.0.under_way (slips_of h.late) first_slips in
         let z = sum_blank h.n line in
         omega (arith, ints)

@@ -1,7 +1,8 @@
 -- An accepted enter keeps the invariant.
 use Rattle.std.proofs.Common.{◌≡◌, ℕ, ◌<◌, Bool, true, false, ℤ, refl, ◌∙◌}
 use Rattle.std.proofs.lemmas.List.{length-set}
-use Rattle.sections.specs.Rule.{Rule, admits}
+use Rattle.common.specs.Questions.{all_yes}
+use Rattle.sections.specs.Rule.{Rule}
 use Rattle.house.specs.declared.phase.Phase.{Phase}
 use Rattle.house.specs.Cut.{Cut, with_event}
 use Rattle.house.specs.Entering.{entered_hall}
@@ -15,7 +16,7 @@ use Rattle.house.proofs.Split.{split_later, split_sooner}
 use Rattle.house.proofs.Views.{Acts, enters'}
 
 module _ (r : Rule) (c : Cut) (p : Phase) (h : Hall) (out : ℕ) (so : Sound r c p h out) where
-  pub enter_sound : (s a b : ℕ) (code : ℤ) → s < h.n → admits (r.entry (sheet_at h s) a b code) ≡ true → Sound r (with_event c (c.turned s) (enters s a b code)) p (entered_hall r h s a b code) out
+  pub enter_sound : (s a b : ℕ) (code : ℤ) → s < h.n → all_yes (r.entry (sheet_at h s) a b code) ≡ true → Sound r (with_event c (c.turned s) (enters s a b code)) p (entered_hall r h s a b code) out
   enter_sound s a b code lt yes' =
       record {
         shape = record { some' = so.shape.some'; few = so.shape.few; sheets = length-set h.sheets s _ ∙ so.shape.sheets; recorded = so.shape.recorded; stations = so.shape.stations };

@@ -6,7 +6,7 @@ use Rattle.std.proofs.lemmas.Bool.{true≢false, eqb-true, not-false, eq-eqb}
 use Rattle.std.specs.List.{AllByRecursion}
 use Rattle.sections.specs.Rule.{Rule}
 use Rattle.methods.specs.Model.{Model}
-use Rattle.methods.specs.Questions.{first_no}
+use Rattle.common.specs.Questions.{first_no}
 use Rattle.house.specs.declared.phase.Phase.{Phase}
 use Rattle.house.specs.declared.phase.Phase.TheVariants.{Ready}
 use Rattle.house.specs.declared.slip.ColouredSlip.{ColouredSlip}
@@ -20,7 +20,7 @@ use Rattle.house.specs.Progress.{Progress, no_progress, progress_after, progress
 use Rattle.house.specs.Runs.{outcome, step, next, run, only_done, accepted, is_done, History, past}
 use Rattle.house.specs.State.{Hall, House, fresh, at, is_counting}
 use Rattle.house.specs.Statements.{CloseIsExact}
-use Rattle.house.proofs.Asked.{all_yes_lem, no_first, yes_parts}
+use Rattle.common.proofs.AllYes.{all_yes_lem, no_first, yes_parts}
 use Rattle.house.proofs.Closed.{owed, none_old}
 use Rattle.house.proofs.Histories.{accepted_holds, made_yes, made_holds, history_holds}
 use Rattle.house.proofs.Holding.{Holds}

@@ -4,7 +4,7 @@ use Rattle.std.proofs.lemmas.List.{length-set, length-map, length_push}
 use Rattle.std.proofs.lemmas.Bool.{eqb-true, eqb-false, ltb-true, and_parts, not-true}
 use Rattle.sections.specs.Rule.{Rule}
 use Rattle.methods.specs.Model.{Model, begin_questions}
-use Rattle.methods.specs.Questions.{first_no}
+use Rattle.common.specs.Questions.{first_no}
 use Rattle.house.specs.declared.phase.Phase.{Phase}
 use Rattle.house.specs.declared.slip.ColouredSlip.{ColouredSlip}
 use Rattle.house.specs.declared.station.Station.{Station}
@@ -21,7 +21,7 @@ use Rattle.house.specs.Runs.{outcome, next, run, History}
 use Rattle.house.specs.State.{Hall, House, fresh, at}
 use Rattle.house.specs.Taking.{is_late, turns_receiver, took_station, late_station, arrives, arrives_late, taken_hall, under_way}
 use Rattle.house.specs.Turning.{turned_station, turns}
-use Rattle.house.proofs.Asked.{AllYes, all_yes_lem, yes_parts}
+use Rattle.common.proofs.AllYes.{AllYes, all_yes_lem, yes_parts}
 use Rattle.house.proofs.Halls.{field_put, field_kept, find_coloured_lem}
 use Rattle.house.proofs.Histories.{accepted_holds, made_yes, made_holds}
 use Rattle.house.proofs.Holding.{Holds}

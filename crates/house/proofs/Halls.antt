@@ -3,7 +3,8 @@ use Rattle.std.proofs.Common.{◌≡◌, ℕ, ◌+◌, ◌<◌, ◌≤◌, Bool,
 use mathlib.Core.Path.{fun_ext}
 use Rattle.std.proofs.lemmas.List.{map-append, length-set}
 use Rattle.std.specs.List.{AllByRecursion}
-use Rattle.sections.specs.Rule.{Rule, admits}
+use Rattle.common.specs.Questions.{all_yes}
+use Rattle.sections.specs.Rule.{Rule}
 use Rattle.house.specs.declared.slip.ColouredSlip.{ColouredSlip}
 use Rattle.house.specs.declared.slip.Slip.{Slip}
 use Rattle.house.specs.declared.station.Station.{Station}
@@ -72,7 +73,7 @@ pub slips_push : (xs : List ColouredSlip) (x : ColouredSlip) → slips_of (xs ++
 slips_push xs x = map-append (λ (y : ColouredSlip). y.slip) xs (x ∷ [])
 
 module _ (r : Rule) (h : Hall) (sh : Shape h) where
-  pub enter_acts : (s a b : ℕ) (code : ℤ) → s < h.n → admits (r.entry (sheet_at h s) a b code) ≡ true → Acts h.n r (hall_view h) (enters' s a b code) (hall_view (entered_hall r h s a b code))
+  pub enter_acts : (s a b : ℕ) (code : ℤ) → s < h.n → all_yes (r.entry (sheet_at h s) a b code) ≡ true → Acts h.n r (hall_view h) (enters' s a b code) (hall_view (entered_hall r h s a b code))
   enter_acts s a b code lt yes' =
       record {
         within = lt;
@@ -90,7 +91,7 @@ module _ (r : Rule) (h : Hall) (sh : Shape h) where
       go None k = refl
       go (Some x) k = let l = given s ((at h s).posted + 1) x k in absurd (omega arith)
 
-  pub post_acts : Numbered (hall_view h) → (s to line : ℕ) (amount : ℤ) → s < h.n → to < h.n → admits (r.debit (sheet_at h s) line amount) ≡ true → Acts h.n r (hall_view h) (posts' (posted_slip h s to line amount)) (hall_view (posted_hall h s to line amount))
+  pub post_acts : Numbered (hall_view h) → (s to line : ℕ) (amount : ℤ) → s < h.n → to < h.n → all_yes (r.debit (sheet_at h s) line amount) ≡ true → Acts h.n r (hall_view h) (posts' (posted_slip h s to line amount)) (hall_view (posted_hall h s to line amount))
   post_acts p s to line amount lt lr yes' =
       record {
         within = lt;
@@ -109,7 +110,7 @@ module _ (r : Rule) (h : Hall) (sh : Shape h) where
   pub turn_shape : (s : ℕ) → s < h.n → Shape (turns h s)
   turn_shape s lt = record { some' = sh.some'; few = sh.few; sheets = sh.sheets; recorded = length-set h.recorded s _ ∙ sh.recorded; stations = length-set h.stations s _ ∙ sh.stations }
 
-  module _ (x : ColouredSlip) (apart : Distinct (slips_of h.tray)) (has : find x.slip.sender x.slip.number (slips_of h.tray) ≡ Some x.slip) (lt : x.slip.receiver < h.n) (yes' : admits (r.credit (sheet_at h x.slip.receiver) x.slip.line x.slip.amount) ≡ true) where
+  module _ (x : ColouredSlip) (apart : Distinct (slips_of h.tray)) (has : find x.slip.sender x.slip.number (slips_of h.tray) ≡ Some x.slip) (lt : x.slip.receiver < h.n) (yes' : all_yes (r.credit (sheet_at h x.slip.receiver) x.slip.line x.slip.amount) ≡ true) where
     less_slips : (λ (a b : ℕ). find a b (slips_of (without_coloured x.slip.sender x.slip.number h.tray))) ≡ put2 (λ a b. find a b (slips_of h.tray)) x.slip.sender x.slip.number None
     less_slips = ap (λ l a b. find a b l) (slips_less x.slip.sender x.slip.number h.tray) ∙ find_less (slips_of h.tray) x.slip.sender x.slip.number apart
 

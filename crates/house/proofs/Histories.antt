@@ -3,12 +3,13 @@ use Rattle.std.proofs.Common.{◌≡◌, ℕ, ◌<◌, ◌&&◌, leb, List, [], 
 use Rattle.std.proofs.lemmas.Bool.{true≢false, eqb-true, leb-true, and_parts}
 use Rattle.sections.specs.Rule.{Rule}
 use Rattle.methods.specs.Model.{Model}
-use Rattle.methods.specs.Questions.{first_no}
+use Rattle.common.specs.Questions.{first_no}
 use Rattle.house.specs.declared.phase.Phase.TheVariants.{Closed}
 use Rattle.house.specs.Calls.{Call, Answer, house_questions, method_questions, questions, after, reply, close, nothing}
 use Rattle.house.specs.Changes.{in_phase}
 use Rattle.house.specs.Closing.{close_questions}
-use Rattle.house.specs.CountText.{sum_of, score}
+use Rattle.common.specs.Sums.{sum_of}
+use Rattle.house.specs.CountText.{score}
 use Rattle.house.specs.Cut.{Cut, no_cut, cut_after, cut_after_all, cut_of}
 use Rattle.house.specs.Making.{make_questions, made_house}
 use Rattle.house.specs.Names.{slips_of}
@@ -16,7 +17,7 @@ use Rattle.house.specs.Runs.{outcome, make, step, next, run, only_done, accepted
 use Rattle.house.specs.State.{House}
 use Rattle.house.specs.Statements.{Consistent, CountsAreConsistent, gain_of, ScoresAreGains}
 use Rattle.house.proofs.Accepted.{accepted_sound}
-use Rattle.house.proofs.Asked.{AllYes, all_yes_lem, yes_parts}
+use Rattle.common.proofs.AllYes.{AllYes, all_yes_lem, yes_parts}
 use Rattle.house.proofs.Closed.{consistent, scored}
 use Rattle.house.proofs.Holding.{Holds}
 use Rattle.house.proofs.Made.{made_sound}

@@ -3,7 +3,7 @@ use Rattle.std.proofs.Common.{◌≡◌, ℕ, Some, None, Option, sym, refl, ap}
 use Rattle.std.proofs.lemmas.Bool.{true≢false}
 use Rattle.sections.specs.Rule.{Rule}
 use Rattle.methods.specs.Model.{Model}
-use Rattle.methods.specs.Questions.{first_no}
+use Rattle.common.specs.Questions.{first_no}
 use Rattle.house.specs.Calls.{Call, Answer, questions, after, reply}
 use Rattle.house.specs.Runs.{Outcome, outcome, step, is_done, refused, done}
 use Rattle.house.specs.State.{House}

@@ -2,9 +2,10 @@
 use Rattle.std.proofs.Common.{◌≡◌, ℕ, Bool, true, false, cond, ◌&&◌, eqb, ltb, List, [], ◌∷◌, ◌++◌, length, get_or, set, Some, None, Option, sym, refl, ap, ◌∙◌, subst}
 use Rattle.std.proofs.lemmas.List.{ext_get_or}
 use Rattle.std.proofs.lemmas.Bool.{true≢false, and_parts}
-use Rattle.sections.specs.Rule.{Rule, admits, entered}
+use Rattle.sections.specs.Codes.{section_code}
+use Rattle.sections.specs.Rule.{Rule, entered}
 use Rattle.methods.specs.Model.{Model}
-use Rattle.methods.specs.Questions.{first_no}
+use Rattle.common.specs.Questions.{first_no, all_yes}
 use Rattle.house.specs.declared.phase.Phase.{Phase}
 use Rattle.house.specs.declared.slip.ColouredSlip.{ColouredSlip}
 use Rattle.house.specs.Calls.{Call, house_questions, method_questions, questions, after, reply, enter, post, take, open', turn, gather, report, close, file}
@@ -20,7 +21,7 @@ use Rattle.house.specs.Statements.{HouseIsItsPlainRun}
 use Rattle.house.specs.Taking.{take_questions, is_late, turns_receiver, arrives, arrives_late, arrived, taken_hall, under_way}
 use Rattle.house.specs.Turning.{turns}
 use Rattle.house.proofs.Accepted.{own_name}
-use Rattle.house.proofs.Asked.{AllYes, all_yes_lem, yes_parts}
+use Rattle.common.proofs.AllYes.{AllYes, told_tested, all_yes_lem, yes_parts}
 use Rattle.house.proofs.Closed.{fine_blank}
 use Rattle.house.proofs.Halls.{hall_view, find_coloured_lem, slips_less, slips_push}
 use Rattle.house.proofs.Histories.{accepted_holds, made_yes, made_holds, history_holds}
@@ -59,19 +60,19 @@ abbrev Ordered : Rule → Cut → Hall → Type 0
 Ordered r c h = (plain_run r (blank h.n) c.all).under_way ≡ slips_of h.tray
 
 entry_stays : (r : Rule) (p : PlainHouse) (s a b : ℕ) (z : _) → (or_stays p (plain_step r p (enters s a b z))).under_way ≡ p.under_way
-entry_stays r p s a b z = go (ltb s (length p.sheets) && admits (r.entry (get_or p.sheets s []) a b z))
+entry_stays r p s a b z = go (ltb s (length p.sheets) && all_yes (r.entry (get_or p.sheets s []) a b z))
   where
     go : (t : Bool) → (or_stays p (cond t (Some (record { sheets = set p.sheets s (entered (get_or p.sheets s []) (r.gain a b z)); posted = p.posted; under_way = p.under_way })) None)).under_way ≡ p.under_way
     go true = refl
     go false = refl
 
 module _ (r : Rule) (c : Cut) (p : Phase) (h : Hall) (out : ℕ) (so : Sound r c p h out) (k : Ordered r c h) where
-  post_ordered : (s to line : ℕ) (amount : _) → ltb s h.n ≡ true → ltb to h.n ≡ true → admits (r.debit (sheet_at h s) line amount) ≡ true → (plain_run r (blank h.n) (c.all ++ posts s to line amount ∷ [])).under_way ≡ slips_of h.tray ++ posted_slip h s to line amount ∷ []
+  post_ordered : (s to line : ℕ) (amount : _) → ltb s h.n ≡ true → ltb to h.n ≡ true → all_yes (r.debit (sheet_at h s) line amount) ≡ true → (plain_run r (blank h.n) (c.all ++ posts s to line amount ∷ [])).under_way ≡ slips_of h.tray ++ posted_slip h s to line amount ∷ []
   post_ordered s to line amount ls lt ok =
       ap (λ (q : PlainHouse). q.under_way) (run_push r (blank h.n) c.all (posts s to line amount))
       ∙ (let es = run_sheets r c p h out so in let ep = run_posted r c p h out so s in let en = so.shape.sheets in rw (es, en, ls, lt, ok, k, ep))
 
-  take_ordered : (x : ColouredSlip) → find_coloured x.slip.sender x.slip.number h.tray ≡ Some x → admits (r.credit (sheet_at h x.slip.receiver) x.slip.line x.slip.amount) ≡ true → (plain_run r (blank h.n) (c.all ++ takes x.slip.sender x.slip.number ∷ [])).under_way ≡ without x.slip.sender x.slip.number (slips_of h.tray)
+  take_ordered : (x : ColouredSlip) → find_coloured x.slip.sender x.slip.number h.tray ≡ Some x → all_yes (r.credit (sheet_at h x.slip.receiver) x.slip.line x.slip.amount) ≡ true → (plain_run r (blank h.n) (c.all ++ takes x.slip.sender x.slip.number ∷ [])).under_way ≡ without x.slip.sender x.slip.number (slips_of h.tray)
   take_ordered x here ok =
       ap (λ (q : PlainHouse). q.under_way) (run_push r (blank h.n) c.all (takes x.slip.sender x.slip.number))
       ∙ (let es = run_sheets r c p h out so in let f = find_coloured_lem x.slip.sender x.slip.number h.tray x here in rw (k, f, es, ok, k))
@@ -89,7 +90,7 @@ taken_ordered : (r : Rule) (c : Cut) (p : Phase) (h : Hall) (out : ℕ) → Soun
 taken_ordered r c p h out so k a b None s y = absurd (true≢false (sym y.0))
 taken_ordered r c p h out so k a b (Some x) s y =
     let n = find_named a b (slips_of h.tray) x.slip (find_coloured_lem a b h.tray x s) in
-    let t = arrived_tray r (c.all ++ takes x.slip.sender x.slip.number ∷ []) p h x (take_ordered r c p h out so k x (own_name a b h.tray x s) y.1.0) in
+    let t = arrived_tray r (c.all ++ takes x.slip.sender x.slip.number ∷ []) p h x (take_ordered r c p h out so k x (own_name a b h.tray x s) (told_tested section_code (r.credit (sheet_at h x.slip.receiver) x.slip.line x.slip.amount) y.1)) in
     subst (λ i. (plain_run r (blank (arrived p h x).n) (c.all ++ takes i b ∷ [])).under_way ≡ slips_of (arrived p h x).tray) n.0 (subst (λ i. (plain_run r (blank (arrived p h x).n) (c.all ++ takes x.slip.sender i ∷ [])).under_way ≡ slips_of (arrived p h x).tray) n.1 t)
 
 gathered_ordered : (m : Model) (r : Rule) (c : Cut) (x : House m.State) (s : ℕ) → Ordered r c x.hall → Ordered r c (after_gather m x s).hall
@@ -106,7 +107,7 @@ module _ (m : Model) (ml : models.Lawful m) (rule : Rule) where
       ∙ entry_stays rule (plain_run rule (blank x.hall.n) c.all) s a b r ∙ k
   accepted_ordered c x so k (post s to line amount) y =
       let q = and_parts _ _ y.0 in
-      post_ordered rule c x.phase x.hall (m.outstanding x.method) so k s to line amount q.0 q.1 y.1.1.1.1.1.0
+      post_ordered rule c x.phase x.hall (m.outstanding x.method) so k s to line amount q.0 q.1 (told_tested section_code (rule.debit (sheet_at x.hall s) line amount) y.1.1.1.1.1)
       ∙ sym (slips_push x.hall.tray (record { slip = posted_slip x.hall s to line amount; colour = (at x.hall s).colour }))
   accepted_ordered c x so k (take a b) y = taken_ordered rule c x.phase x.hall (m.outstanding x.method) so k a b (under_way x.hall a b) refl y
   accepted_ordered c x so k (open' s) y = k

@@ -7,7 +7,9 @@ use Rattle.std.proofs.lemmas.Bool.{eqb-true, eqb-false, lt-ltb}
 use Rattle.std.proofs.lemmas.Bool.Decides.{nat_tests}
 use Rattle.sections.specs.Rule.{Rule, figure_at, entered, debited, credited}
 use Rattle.house.specs.declared.slip.Slip.{Slip}
-use Rattle.house.specs.CountText.{sum_of, on_sheets, on_slip, on_slips}
+use Rattle.common.specs.Sums.{sum_of}
+use Rattle.sections.specs.Sums.{line_sum}
+use Rattle.house.specs.CountText.{on_slip, on_slips}
 use Rattle.house.specs.Cut.{put, put2}
 use Rattle.house.specs.Names.{same, find, without}
 use Rattle.house.specs.PlainHouse.{PlainHouse, Event, plain_step, or_stays, plain_run, RefusesNone}
@@ -15,7 +17,8 @@ use Rattle.house.specs.Statements.{gain_of}
 use Rattle.sections.proofs.Gains.{length-entered, figure_entered}
 use Rattle.house.proofs.Sheets.{figure_debited, figure_credited}
 use Rattle.house.proofs.Slips.{same_refl, same_true, find_append, Distinct, find_without, distinct_without, distinct_push}
-use Rattle.house.proofs.Sums.{sum_push, sum_set, sum_without}
+use Rattle.common.proofs.Sums.{sum_push}
+use Rattle.house.proofs.Sums.{sum_set, sum_without}
 use Rattle.house.proofs.Views.{View, FullEvent, event_of, changed, Acts, Acted, Numbered, numbered_acts, enters', posts', takes'}
 
 abbrev pub plain_view : PlainHouse → View
@@ -81,7 +84,7 @@ plays_both r p q w (d ∷ ds) es g h = (g.0, g.1, plays_both r g.0 q w ds es g.2
 
 -- what a plain house holds of a line, on its sheets and under way
 abbrev pub held : ℕ → PlainHouse → ℤ
-held line p = on_sheets line p.sheets +ℤ on_slips line p.under_way
+held line p = line_sum (λ (f : List ℤ). f) line p.sheets +ℤ on_slips line p.under_way
 
 pub length-changed : (r : Rule) (d : FullEvent) (f : List ℤ) → length (changed r d f) ≡ length f
 length-changed r (enters' s a b code) f = length-entered f (r.gain a b code)

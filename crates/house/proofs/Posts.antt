@@ -5,7 +5,8 @@ use Rattle.std.proofs.ByRecursion.{All-append}
 use Rattle.std.proofs.lemmas.List.{length-set}
 use Rattle.std.proofs.lemmas.Int.{ints}
 use Rattle.std.proofs.lemmas.Bool.Decides.{nat_tests}
-use Rattle.sections.specs.Rule.{Rule, admits}
+use Rattle.common.specs.Questions.{all_yes}
+use Rattle.sections.specs.Rule.{Rule}
 use Rattle.house.specs.declared.colour.Colour.{Colour}
 use Rattle.house.specs.declared.phase.Phase.{Phase}
 use Rattle.house.specs.declared.slip.ColouredSlip.{ColouredSlip}
@@ -31,7 +32,7 @@ pub count_posted : (p : ℕ → ℕ → Bool) (v : Bool) (tray : List ColouredSl
 count_posted p v tray x q agree here none_yet =
     count_push q tray x ∙ ap (λ k. k + cond (q x.slip.sender x.slip.number) 1 0) (count_agree q p x.slip.sender x.slip.number tray agree none_yet) ∙ ap (λ t. count p tray + cond t 1 0) here
 
-module _ (r : Rule) (c : Cut) (p : Phase) (h : Hall) (out : ℕ) (so : Sound r c p h out) (s to line : ℕ) (amount : ℤ) (lt : s < h.n) (lr : to < h.n) (yes' : admits (r.debit (sheet_at h s) line amount) ≡ true) where
+module _ (r : Rule) (c : Cut) (p : Phase) (h : Hall) (out : ℕ) (so : Sound r c p h out) (s to line : ℕ) (amount : ℤ) (lt : s < h.n) (lr : to < h.n) (yes' : all_yes (r.debit (sheet_at h s) line amount) ≡ true) where
   pub post_sound : Sound r (with_event (with_post c s to (c.posted s + 1)) (c.turned s) (posts s to line amount)) p (posted_hall h s to line amount) out
   post_sound =
       subst (λ k. Sound r (with_event (with_post c s to k) (c.turned s) (posts s to line amount)) p h' out) (ap (λ j. j + 1) (sym (so.common.sent_is s)))

@@ -4,7 +4,9 @@ use mathlib.Core.Path.{fun_ext}
 use Rattle.std.proofs.lemmas.List.{length-set, length-map}
 use Rattle.std.proofs.lemmas.Bool.{true≢false, eqb-true, ltb-true, and_parts}
 use Rattle.std.proofs.lemmas.Bool.Decides.{nat_tests}
-use Rattle.sections.specs.Rule.{Rule, admits}
+use Rattle.common.specs.Questions.{all_yes}
+use Rattle.sections.specs.Codes.{section_code}
+use Rattle.sections.specs.Rule.{Rule}
 use Rattle.methods.specs.Model.{Model}
 use Rattle.house.specs.declared.phase.Phase.{Phase}
 use Rattle.house.specs.declared.phase.Phase.TheVariants.{Counting}
@@ -23,7 +25,7 @@ use Rattle.house.specs.State.{Hall, House, fresh, at, sheet_at, is_counting}
 use Rattle.house.specs.Taking.{is_late, turns_receiver, take_questions, took_station, late_station, arrives, arrives_late, arrived, taken_hall, under_way}
 use Rattle.house.specs.Turning.{turned_station, turns}
 use Rattle.house.proofs.Accepted.{own_name}
-use Rattle.house.proofs.Asked.{AllYes}
+use Rattle.common.proofs.AllYes.{AllYes, told_tested}
 use Rattle.house.proofs.Halls.{field_put, field_kept, find_coloured_lem}
 use Rattle.house.proofs.Phases.{is_counting_lem, is_closed_lem}
 use Rattle.house.proofs.Rounds.{mapped}
@@ -64,7 +66,7 @@ module _ (r : Rule) (c : Cut) (g : Progress) (p : Phase) (h : Hall) (out : ℕ) 
       }
 
   -- the house's own test for a late slip is the progress's
-  late_same : (x : ColouredSlip) → find_coloured x.slip.sender x.slip.number h.tray ≡ Some x → admits (r.credit (sheet_at h x.slip.receiver) x.slip.line x.slip.amount) ≡ true → is_late p h x ≡ late_take c g x.slip.sender x.slip.number
+  late_same : (x : ColouredSlip) → find_coloured x.slip.sender x.slip.number h.tray ≡ Some x → all_yes (r.credit (sheet_at h x.slip.receiver) x.slip.line x.slip.amount) ≡ true → is_late p h x ≡ late_take c g x.slip.sender x.slip.number
   late_same x here yes' = go (is_counting p) refl
     where
       q : c.receiver x.slip.sender x.slip.number ≡ x.slip.receiver
@@ -77,7 +79,7 @@ module _ (r : Rule) (c : Cut) (g : Progress) (p : Phase) (h : Hall) (out : ℕ) 
       go false e = between e
       go true e = let ph = is_counting_lem p e in late? r c p h out so x here yes' (during_of r c p h out so ph) ph ∙ (let o : g.open? ≡ true = k.opened ∙ e in rw (o, q))
 
-  arrived_kept : (x : ColouredSlip) → find_coloured x.slip.sender x.slip.number h.tray ≡ Some x → admits (r.credit (sheet_at h x.slip.receiver) x.slip.line x.slip.amount) ≡ true → Kept (progress_after c g (take x.slip.sender x.slip.number)) p (arrived p h x)
+  arrived_kept : (x : ColouredSlip) → find_coloured x.slip.sender x.slip.number h.tray ≡ Some x → all_yes (r.credit (sheet_at h x.slip.receiver) x.slip.line x.slip.amount) ≡ true → Kept (progress_after c g (take x.slip.sender x.slip.number)) p (arrived p h x)
   arrived_kept x here yes' = go (is_late p h x) refl (turns_receiver p h x) refl
     where
       has : find x.slip.sender x.slip.number (slips_of h.tray) ≡ Some x.slip
@@ -104,7 +106,7 @@ module _ (r : Rule) (c : Cut) (g : Progress) (p : Phase) (h : Hall) (out : ℕ) 
   taken_kept a b None s y = absurd (true≢false (sym y.0))
   taken_kept a b (Some x) s y =
       let n = find_named a b (slips_of h.tray) x.slip (find_coloured_lem a b h.tray x s) in
-      let t = arrived_kept x (own_name a b h.tray x s) y.1.0 in
+      let t = arrived_kept x (own_name a b h.tray x s) (told_tested section_code (r.credit (sheet_at h x.slip.receiver) x.slip.line x.slip.amount) y.1) in
       subst (λ k. Kept (progress_after c g (take k b)) p (arrived p h x)) n.0 (subst (λ k. Kept (progress_after c g (take x.slip.sender k)) p (arrived p h x)) n.1 t)
 
   gather_kept : (s messages : ℕ) → ltb s h.n ≡ true → Kept (progress_after c g (gather s)) p (with_messages (gathered_hall h s) messages)

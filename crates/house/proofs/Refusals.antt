@@ -1,39 +1,40 @@
 -- No refusal in a history is the method's.
-use Rattle.std.proofs.Common.{ℕ, ◌<◌, Bool, true, false, cond, ltb, length, Some, None, Option, sym, ◌∙◌, arith}
-use Rattle.sections.specs.Codes.{verdict_code}
-use Rattle.sections.specs.Rule.{Verdict, Rule, admitted, denied}
+use Rattle.std.proofs.Common.{ℕ, ◌<◌, Bool, true, false, cond, ltb, [], ◌∷◌, length, Some, None, Option, sym, ◌∙◌, arith}
+use Rattle.sections.specs.Codes.{section_code}
+use Rattle.sections.specs.Rule.{SectionQuestions, Rule}
 use Rattle.methods.specs.Model.{Model}
-use Rattle.methods.specs.Questions.{ask, first_no}
+use Rattle.common.specs.Questions.{ask, number, told_as, first_no}
 use Rattle.house.specs.declared.phase.Phase.{Phase}
 use Rattle.house.specs.declared.slip.ColouredSlip.{ColouredSlip}
-use Rattle.house.specs.Asking.{small}
+use Rattle.house.specs.Asking.{is_deficit}
 use Rattle.house.specs.Calls.{Call, house_questions, method_questions, questions, after, reply, enter, post, take, open', turn, gather, report, close, file}
 use Rattle.house.specs.Cut.{cut_of}
 use Rattle.house.specs.Runs.{past}
 use Rattle.house.specs.State.{Hall, sheet_at}
 use Rattle.house.specs.Statements.{MethodRefusesNothing}
 use Rattle.house.specs.Taking.{is_late, running_after, take_questions, under_way}
-use Rattle.house.proofs.Asked.{all_yes_lem, no_first, Low, low_first}
+use Rattle.common.proofs.AllYes.{all_yes_lem, no_first}
+use Rattle.house.proofs.Asked.{Low, low_first}
 use Rattle.house.proofs.Histories.{history_holds}
 use Rattle.house.proofs.Outcomes.{outcome_refused}
 use Rattle.house.proofs.Willing.{method_yes, house_decides}
 use Rattle.methods.specs.Model as models
 
-low_section : (v : Verdict) → (verdict_code v).0 < 23
-low_section admitted = omega arith
-low_section (denied cause line) = omega arith
+low_section : (qs : SectionQuestions) → Low (told_as section_code qs)
+low_section [] = tt
+low_section (q ∷ qs) = (omega arith, low_section qs)
 
 low_take : (rule : Rule) (p : Phase) (h : Hall) (o : Option ColouredSlip) → Low (take_questions rule p h o)
 low_take rule p h None = (omega arith, tt)
-low_take rule p h (Some x) = (go (is_late p h x), (low_section (rule.credit (sheet_at h x.slip.receiver) x.slip.line x.slip.amount), tt))
+low_take rule p h (Some x) = (go (is_late p h x), (low_section (rule.credit (sheet_at h x.slip.receiver) x.slip.line x.slip.amount)))
   where
-    go : (b : Bool) → (cond b (ask (ltb (length h.late) h.late_cells) 11) (ask (small (running_after p h x)) 8)).code.0 < 23
+    go : (b : Bool) → (cond b (ask (ltb (length h.late) h.late_cells) (number 11)) (ask (is_deficit (running_after p h x)) (number 8))).told.0 < 23
     go true = omega arith
     go false = omega arith
 
 low_house : (rule : Rule) (p : Phase) (h : Hall) (out : ℕ) (call : Call) → Low (house_questions rule p h out call)
-low_house rule p h out (enter s a b r) = (omega arith, (omega arith, (low_section (rule.entry (sheet_at h s) a b r), tt)))
-low_house rule p h out (post s to line amount) = (omega arith, (omega arith, (omega arith, (omega arith, (omega arith, (low_section (rule.debit (sheet_at h s) line amount), tt))))))
+low_house rule p h out (enter s a b r) = (omega arith, (omega arith, low_section (rule.entry (sheet_at h s) a b r)))
+low_house rule p h out (post s to line amount) = (omega arith, (omega arith, (omega arith, (omega arith, (omega arith, low_section (rule.debit (sheet_at h s) line amount))))))
 low_house rule p h out (take a b) = low_take rule p h (under_way h a b)
 low_house rule p h out (open' s) = (omega arith, (omega arith, tt))
 low_house rule p h out (turn s) = (omega arith, (omega arith, (omega arith, tt)))

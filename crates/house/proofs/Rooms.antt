@@ -19,7 +19,7 @@ use Rattle.house.specs.State.{Hall, House, fresh, at, is_counting}
 use Rattle.house.specs.Taking.{is_late, turns_receiver, take_questions, took_station, late_station, arrives, arrives_late, arrived, taken_hall, under_way}
 use Rattle.house.specs.Turning.{turned_station, turns}
 use Rattle.house.proofs.Accepted.{begun_left, heard_left}
-use Rattle.house.proofs.Asked.{AllYes}
+use Rattle.common.proofs.AllYes.{AllYes}
 use Rattle.house.proofs.Halls.{field_put, find_coloured_lem}
 use Rattle.house.proofs.Holding.{Room, begun?, Served, Holds, served_on, length-less, root_kept}
 use Rattle.house.proofs.Phases.{is_ready_lem, is_closed_lem}

@@ -4,7 +4,7 @@ use Rattle.std.proofs.lemmas.Bool.{both_ways}
 use Rattle.std.specs.List.{AllByRecursion}
 use Rattle.sections.specs.Rule.{Rule}
 use Rattle.methods.specs.Model.{Model}
-use Rattle.methods.specs.Questions.{first_no}
+use Rattle.common.specs.Questions.{first_no}
 use Rattle.house.specs.declared.phase.Phase.{Phase}
 use Rattle.house.specs.declared.slip.ColouredSlip.{ColouredSlip}
 use Rattle.house.specs.Calls.{Call, house_questions, method_questions, questions, after, reply, enter, post, take, open', turn, gather, report, close, file}
@@ -14,7 +14,7 @@ use Rattle.house.specs.Runs.{outcome, next, run, only_done, accepted}
 use Rattle.house.specs.State.{Hall, House, is_counting}
 use Rattle.house.specs.Statements.{NotOpen, NotFile, Stays, CountsStay}
 use Rattle.house.specs.Taking.{arrives, arrived, taken_hall, under_way}
-use Rattle.house.proofs.Asked.{AllYes, all_yes_lem, yes_parts}
+use Rattle.common.proofs.AllYes.{AllYes, all_yes_lem, yes_parts}
 
 stays : {Q : Type 0} (x y : House Q) → is_counting y.phase ≡ false → y.hall.recorded ≡ x.hall.recorded → y.hall.late ≡ x.hall.late → Stays x y
 stays x y p r l = record { shut = p; recorded = r; late = l; text = ap (λ f. count_text f (slips_of y.hall.late)) r ∙ ap (λ f. count_text x.hall.recorded (slips_of f)) l }

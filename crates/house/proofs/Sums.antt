@@ -8,12 +8,9 @@ use Rattle.std.specs.List.{swap}
 use Rattle.std.specs.List.Sorted.{IsPermutation}
 use Rattle.sections.specs.Rule.{blank_sheet}
 use Rattle.house.specs.declared.slip.Slip.{Slip}
-use Rattle.house.specs.CountText.{sum_of, on_sheets}
+use Rattle.common.specs.Sums.{sum_of}
+use Rattle.sections.specs.Sums.{line_sum}
 use Rattle.house.specs.Names.{named, find, without}
-
-pub sum_push : {X : Type 0} (f : X → ℤ) (xs : List X) (y : X) → sum_of f (xs ++ y ∷ []) ≡ sum_of f xs +ℤ f y
-sum_push f [] y = omega (arith, ints)
-sum_push f (x ∷ xs) y = let ih = sum_push f xs y in omega (arith, ints)
 
 pub sum_set : {X : Type 0} (f : X → ℤ) (xs : List X) (i : ℕ) (y d : X) → i < length xs → sum_of f (set xs i y) +ℤ f (get_or xs i d) ≡ sum_of f xs +ℤ f y
 sum_set f [] i y d l = absurd (omega arith)
@@ -53,6 +50,6 @@ get_or-same zero x s = refl
 get_or-same (suc n) x zero = refl
 get_or-same (suc n) x (suc s) = get_or-same n x s
 
-pub sum_blank : (n line : ℕ) → on_sheets line (replicate n blank_sheet) ≡ pos 0
+pub sum_blank : (n line : ℕ) → line_sum (λ (f : List ℤ). f) line (replicate n blank_sheet) ≡ pos 0
 sum_blank zero line = refl
 sum_blank (suc n) line = let ih = sum_blank n line in let e = get_or-same 32 (pos 0) line in omega (arith, ints)

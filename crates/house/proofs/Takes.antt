@@ -1,6 +1,7 @@
 -- An accepted take keeps the invariant.
 use Rattle.std.proofs.Common.{◌≡◌, ℕ, ◌<◌, Bool, true, false, not, ◌&&◌, ◌||◌, [], ◌∷◌, ◌++◌, Some, sym, refl, ap, ◌∙◌, subst, arith}
-use Rattle.sections.specs.Rule.{Rule, admits}
+use Rattle.common.specs.Questions.{all_yes}
+use Rattle.sections.specs.Rule.{Rule}
 use Rattle.house.specs.declared.colour.Colour.{Colour}
 use Rattle.house.specs.declared.colour.Colour.TheVariants.{White, Red}
 use Rattle.house.specs.declared.phase.Phase.{Phase}
@@ -40,7 +41,7 @@ put_kept f s v e = ap (put f s) (sym e) ∙ put_own f s
 pub same_cut : (c : Cut) (q : ℕ) (t : Bool) (e : Event) → c.turned q ≡ t → with_event (with_turned c (put c.turned q t)) t e ≡ with_event c t e
 same_cut c q t e k = ap (λ f. with_event (with_turned c f) t e) (put_kept c.turned q t k)
 
-module _ (r : Rule) (c : Cut) (p : Phase) (h : Hall) (out : ℕ) (so : Sound r c p h out) (x : ColouredSlip) (here : find_coloured x.slip.sender x.slip.number h.tray ≡ Some x) (yes' : admits (r.credit (sheet_at h x.slip.receiver) x.slip.line x.slip.amount) ≡ true) where
+module _ (r : Rule) (c : Cut) (p : Phase) (h : Hall) (out : ℕ) (so : Sound r c p h out) (x : ColouredSlip) (here : find_coloured x.slip.sender x.slip.number h.tray ≡ Some x) (yes' : all_yes (r.credit (sheet_at h x.slip.receiver) x.slip.line x.slip.amount) ≡ true) where
   has : find x.slip.sender x.slip.number (slips_of h.tray) ≡ Some x.slip
   has = find_coloured_lem x.slip.sender x.slip.number h.tray x here
 

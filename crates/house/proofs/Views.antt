@@ -4,7 +4,8 @@ use mathlib.Core.Path.{fun_ext}
 use Rattle.std.proofs.lemmas.Bool.{eq-eqb, ne_eqb}
 use Rattle.std.proofs.lemmas.Bool.Decides.{nat_tests}
 use Rattle.std.specs.List.{AllByRecursion}
-use Rattle.sections.specs.Rule.{Verdict, Rule, admits, entered, debited, credited}
+use Rattle.common.specs.Questions.{all_yes}
+use Rattle.sections.specs.Rule.{SectionQuestions, Rule, entered, debited, credited}
 use Rattle.house.specs.declared.slip.Slip.{Slip}
 use Rattle.house.specs.Cut.{put, put2}
 use Rattle.house.specs.Names.{same}
@@ -34,11 +35,11 @@ actor (enters' s a b code) = s
 actor (posts' x) = x.sender
 actor (takes' x) = x.receiver
 
--- what the section says of it, and what it makes of the sheet
-abbrev pub verdict : Rule → FullEvent → List ℤ → Verdict
-verdict r (enters' s a b code) f = r.entry f a b code
-verdict r (posts' x) f = r.debit f x.line x.amount
-verdict r (takes' x) f = r.credit f x.line x.amount
+-- what the section asks of it, and what it makes of the sheet
+abbrev pub section_questions : Rule → FullEvent → List ℤ → SectionQuestions
+section_questions r (enters' s a b code) f = r.entry f a b code
+section_questions r (posts' x) f = r.debit f x.line x.amount
+section_questions r (takes' x) f = r.credit f x.line x.amount
 
 abbrev pub changed : Rule → FullEvent → List ℤ → List ℤ
 changed r (enters' s a b code) f = entered f (r.gain a b code)
@@ -67,7 +68,7 @@ Fit n (takes' x) v = v.slips x.sender x.number ≡ Some x
 pub record Acts (n : ℕ) (r : Rule) (v : View) (d : FullEvent) (w : View) : Type 0 where
   pub within : actor d < n
   pub fit : Fit n d v
-  pub grant : admits (verdict r d (v.sheet (actor d))) ≡ true
+  pub grant : all_yes (section_questions r d (v.sheet (actor d))) ≡ true
   pub sheet : w.sheet ≡ put v.sheet (actor d) (changed r d (v.sheet (actor d)))
   pub posted : w.posted ≡ put v.posted (actor d) (tally d (v.posted (actor d)))
   pub slips : w.slips ≡ placed d v.slips
@@ -185,11 +186,11 @@ swap n r x y z d e num p q ne fr =
     let ws : w.sheet (actor d) ≡ x.sheet (actor d) = put_other x.sheet (actor e) (actor d) _ ne in
     let wp : w.posted (actor d) ≡ x.posted (actor d) = put_other x.posted (actor e) (actor d) _ ne in (
       w,
-      record { within = q.within; fit = (fit_moves n e d x y en a p.posted p.slips).1 q.fit; grant = ap (λ f. admits (verdict r e f)) (sym ys) ∙ q.grant; sheet = refl; posted = refl; slips = refl },
+      record { within = q.within; fit = (fit_moves n e d x y en a p.posted p.slips).1 q.fit; grant = ap (λ f. all_yes (section_questions r e f)) (sym ys) ∙ q.grant; sheet = refl; posted = refl; slips = refl },
       record {
         within = p.within;
         fit = (fit_moves n d e x w ne (apart_sym d e a) refl refl).0 p.fit;
-        grant = ap (λ f. admits (verdict r d f)) ws ∙ p.grant;
+        grant = ap (λ f. all_yes (section_questions r d f)) ws ∙ p.grant;
         sheet = q.sheet ∙ ap (λ k. put y.sheet (actor e) (changed r e k)) ys ∙ ap (λ f. put f (actor e) (changed r e (x.sheet (actor e)))) p.sheet ∙ put_swap x.sheet (actor d) (actor e) _ _ ne ∙ ap (λ k. put w.sheet (actor d) (changed r d k)) (sym ws);
         posted = q.posted ∙ ap (λ k. put y.posted (actor e) (tally e k)) yp ∙ ap (λ f. put f (actor e) (tally e (x.posted (actor e)))) p.posted ∙ put_swap x.posted (actor d) (actor e) _ _ ne ∙ ap (λ k. put w.posted (actor d) (tally d k)) (sym wp);
         slips = q.slips ∙ ap (placed e) p.slips ∙ placed_swap d e x.slips a;

@@ -4,14 +4,14 @@ use lib.Signed.{le_z}
 use Rattle.std.proofs.lemmas.Bool.{true≢false, eqb-true, ltb-true, lt-ltb, leb-true, and_parts, not-true, eq-eqb, le-leb}
 use Rattle.sections.specs.Rule.{Rule}
 use Rattle.methods.specs.Model.{Model, begin_questions}
-use Rattle.methods.specs.Questions.{first_no}
+use Rattle.common.specs.Questions.{first_no}
 use Rattle.house.specs.declared.slip.ColouredSlip.{ColouredSlip}
 use Rattle.house.specs.Calls.{Call, house_questions, method_questions, questions, enter, post, take, open', turn, gather, report, close, file}
 use Rattle.house.specs.Cut.{Cut}
 use Rattle.house.specs.Gathering.{gather_questions, sum_at, root_questions}
 use Rattle.house.specs.Reporting.{report_questions, heard_questions}
 use Rattle.house.specs.State.{House, at}
-use Rattle.house.proofs.Asked.{AllYes, first_decide}
+use Rattle.common.proofs.AllYes.{AllYes, first_decide}
 use Rattle.house.proofs.Closed.{owed}
 use Rattle.house.proofs.Gathered.{root_sum}
 use Rattle.house.proofs.Holding.{Holds}

@@ -6,7 +6,8 @@ use Rattle.methods.specs.Climb.{climb}
 use Rattle.methods.specs.Swap.{turned}
 use Rattle.methods.specs.Arrival.{arrival}
 use Rattle.house.specs.Gathering.{sums}
-use Rattle.house.specs.CountText.{sheet_lines, record_lines, slip_lines, score_lines}
+use Rattle.common.specs.TextLines.{score_lines}
+use Rattle.house.specs.CountText.{sheet_lines, record_lines, slip_lines}
 use Rattle.house.specs.Worked.{WorkedHistory}
 
 pub worked_history : WorkedHistory

@@ -1,13 +1,8 @@
--- Questions that several calls ask.
-use Rattle.std.specs.Prelude.{Bool, ◌&&◌, ℤ, pos, neg_ℤ, int_le}
-use Rattle.sections.specs.Rule.{Verdict, admits}
-use Rattle.sections.specs.Codes.{verdict_code}
-use Rattle.methods.specs.Questions.{Question}
-
--- does the section admit it? If not, its cause and line are told with number 6
-abbrev pub section? : Verdict → Question
-section? v = record { yes? = admits v; code = verdict_code v }
+-- What several calls ask of a deficit.
+use Rattle.std.specs.Prelude.{Bool, ℤ}
+use Rattle.common.specs.Limits.{largest_deficit}
+use Rattle.common.specs.Ranges.{up_to}
 
 -- a deficit from -30,000 to 30,000
-abbrev pub small : ℤ → Bool
-small z = int_le (neg_ℤ (pos 30000)) z && int_le z (pos 30000)
+abbrev pub is_deficit : ℤ → Bool
+is_deficit z = up_to largest_deficit z

@@ -1,7 +1,7 @@
 -- The calls of a house after make: what each asks, what it leaves and what it answers.
 use Rattle.std.specs.Prelude.{ℕ, ◌+◌, List, [], ◌++◌, length, ℤ}
 use Rattle.sections.specs.Rule.{Rule}
-use Rattle.methods.specs.Questions.{Question}
+use Rattle.common.specs.Questions.{Question, Code}
 use Rattle.methods.specs.Model.{Model}
 use Rattle.house.specs.declared.phase.Phase.{Phase}
 use Rattle.house.specs.declared.phase.Phase.TheVariants.{Ready, Counting, Closed}
@@ -38,7 +38,7 @@ pub data Answer : Type 0 where
   filed : (written : ℕ) (text : List ℕ) → Answer  -- how many bytes were written, and the text after
 
 -- what the house itself asks, in order
-abbrev pub house_questions : Rule → Phase → Hall → (outstanding : ℕ) → Call → List Question
+abbrev pub house_questions : Rule → Phase → Hall → (outstanding : ℕ) → Call → List (Question Code)
 house_questions rule p h outstanding (enter s a b r) = enter_questions rule h s a b r
 house_questions rule p h outstanding (post s to line amount) = post_questions rule h s to line amount
 house_questions rule p h outstanding (take a b) = take_questions rule p h (under_way h a b)
@@ -50,7 +50,7 @@ house_questions rule p h outstanding close = close_questions p h outstanding
 house_questions rule p h outstanding (file told text) = file_questions p h told text
 
 -- what its method asks after that
-abbrev pub method_questions : (m : Model) → House m.State → Call → List Question
+abbrev pub method_questions : (m : Model) → House m.State → Call → List (Question Code)
 method_questions m x (enter s a b r) = []
 method_questions m x (post s to line amount) = []
 method_questions m x (take a b) = []
@@ -61,7 +61,7 @@ method_questions m x (report s) = heard_questions m x s
 method_questions m x close = []
 method_questions m x (file told text) = []
 
-abbrev pub questions : (m : Model) → Rule → House m.State → Call → List Question
+abbrev pub questions : (m : Model) → Rule → House m.State → Call → List (Question Code)
 questions m rule x call = house_questions rule x.phase x.hall (m.outstanding x.method) call ++ method_questions m x call
 
 -- what an accepted call leaves

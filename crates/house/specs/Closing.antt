@@ -1,13 +1,13 @@
 -- close: the count is complete.
 use Rattle.std.specs.Prelude.{ℕ, List, [], ◌∷◌, ◌==◌}
-use Rattle.methods.specs.Questions.{Question, ask}
+use Rattle.common.specs.Questions.{Question, Code, ask, number}
 use Rattle.house.specs.declared.phase.Phase.{Phase}
 use Rattle.house.specs.State.{Hall, at, is_counting}
 
 -- a count is open; the root has gathered; the method says that nothing is outstanding
-abbrev pub close_questions : Phase → Hall → (outstanding : ℕ) → List Question
+abbrev pub close_questions : Phase → Hall → (outstanding : ℕ) → List (Question Code)
 close_questions p h outstanding =
-    ask (is_counting p) 13
-    ∷ ask (at h 0).gathered 18
-    ∷ ask (outstanding == 0) 20
+    ask (is_counting p) (number 13)
+    ∷ ask (at h 0).gathered (number 18)
+    ∷ ask (outstanding == 0) (number 20)
     ∷ []

@@ -1,6 +1,6 @@
 -- gather: frozen deficits are summed up the tree of stations; at the root the counting method begins.
 use Rattle.std.specs.Prelude.{ℕ, zero, suc, ◌+◌, ◌*◌, Bool, true, cond, not, ◌&&◌, ◌||◌, List, [], ◌∷◌, length, ℤ, pos, ◌+ℤ◌, ◌==◌, nat_le, nat_lt, slice_index_or, unsigned_abs}
-use Rattle.methods.specs.Questions.{Question, ask}
+use Rattle.common.specs.Questions.{Question, Code, ask, number}
 use Rattle.methods.specs.Model.{Model, begin_questions}
 use Rattle.house.specs.declared.phase.Phase.{Phase}
 use Rattle.house.specs.declared.station.Station.{Station}
@@ -12,13 +12,13 @@ abbrev pub gathered_below : Hall → (i : ℕ) → Bool
 gathered_below h i = nat_le h.n i || (at h i).gathered
 
 -- a station; a count is open; it has turned; it has not gathered; its children 2s + 1 and 2s + 2 have
-abbrev pub gather_questions : Phase → Hall → (s : ℕ) → List Question
+abbrev pub gather_questions : Phase → Hall → (s : ℕ) → List (Question Code)
 gather_questions p h s =
-    ask (nat_lt s h.n) 4
-    ∷ ask (is_counting p) 13
-    ∷ ask (at h s).turned 15
-    ∷ ask (not (at h s).gathered) 16
-    ∷ ask (gathered_below h (2 * s + 1) && gathered_below h (2 * s + 2)) 17
+    ask (nat_lt s h.n) (number 4)
+    ∷ ask (is_counting p) (number 13)
+    ∷ ask (at h s).turned (number 15)
+    ∷ ask (not (at h s).gathered) (number 16)
+    ∷ ask (gathered_below h (2 * s + 1) && gathered_below h (2 * s + 2)) (number 17)
     ∷ []
 
 -- the frozen deficits of station i and of all below it, so many levels deep
@@ -37,7 +37,7 @@ abbrev pub gathered_hall : Hall → (s : ℕ) → Hall
 gathered_hall h s = with_station h s (gathered_station (at h s))
 
 -- at the root the method is asked too
-abbrev pub root_questions : (m : Model) → House m.State → (s : ℕ) → List Question
+abbrev pub root_questions : (m : Model) → House m.State → (s : ℕ) → List (Question Code)
 root_questions m x s = cond (s == 0) (begin_questions (m.outstanding x.method) x.hall.n (sum_at x.hall s)) []
 
 -- it begins with all stations and the sum, and what it sends is counted

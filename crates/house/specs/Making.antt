@@ -1,17 +1,19 @@
 -- make: what it asks, and the house that it gives.
+use Rattle.common.specs.Limits.{most_stations, most_cells}
+use Rattle.common.specs.Ranges.{within}
 use Rattle.std.specs.Prelude.{ℕ, ◌&&◌, List, [], ◌∷◌, replicate, ◌==◌, nat_le}
 use Rattle.sections.specs.Rule.{blank_sheet}
-use Rattle.methods.specs.Questions.{Question, ask}
+use Rattle.common.specs.Questions.{Question, Code, ask, number}
 use Rattle.house.specs.declared.phase.Phase.TheVariants.{Ready}
 use Rattle.house.specs.State.{Hall, House, fresh}
 
 -- stations 1 to 64; sheets and record each n long; tray and late list 1 to 4,096 cells each; nothing outstanding
-abbrev pub make_questions : (n sheets recorded tray_cells late_cells outstanding : ℕ) → List Question
+abbrev pub make_questions : (n sheets recorded tray_cells late_cells outstanding : ℕ) → List (Question Code)
 make_questions n sheets recorded tray_cells late_cells outstanding =
-    ask (nat_le 1 n && nat_le n 64) 1
-    ∷ ask (sheets == n && recorded == n) 2
-    ∷ ask ((nat_le 1 tray_cells && nat_le tray_cells 4096) && (nat_le 1 late_cells && nat_le late_cells 4096)) 3
-    ∷ ask (outstanding == 0) 24
+    ask (within 1 most_stations n) (number 1)
+    ∷ ask (sheets == n && recorded == n) (number 2)
+    ∷ ask (within 1 most_cells tray_cells && within 1 most_cells late_cells) (number 3)
+    ∷ ask (outstanding == 0) (number 24)
     ∷ []
 
 -- sheets and record blank, stations fresh, tray and late list empty

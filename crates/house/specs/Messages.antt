@@ -1,5 +1,6 @@
 -- The control messages since the last open, read off the calls and their answers.
 use Rattle.std.specs.Prelude.{◌≡◌, ℕ, ◌+◌, ◌*◌, ◌≤◌, cond, List, [], ◌∷◌, length, ◌==◌, unsigned_abs}
+use Rattle.common.specs.Limits.{most_messages}
 use Rattle.sections.specs.Rule.{Rule}
 use Rattle.methods.specs.Model.{Model}
 use Rattle.house.specs.State.{House}
@@ -56,4 +57,4 @@ CloseTellsTheMessages m =
 abbrev pub MessagesAreFew : Model → Type 0
 MessagesAreFew m =
     (rule : Rule) (x y : House m.State) (late messages : ℕ) → step m rule x close ≡ done y (receipt late messages) → History m rule x →
-    messages ≤ 1000 * (late + 1)
+    messages ≤ most_messages * (late + 1)

@@ -1,6 +1,6 @@
 -- open: a count begins.
 use Rattle.std.specs.Prelude.{ℕ, false, List, [], ◌∷◌, map, nat_lt}
-use Rattle.methods.specs.Questions.{Question, ask}
+use Rattle.common.specs.Questions.{Question, Code, ask, number}
 use Rattle.house.specs.declared.phase.Phase.{Phase}
 use Rattle.house.specs.declared.station.Station.{Station}
 use Rattle.house.specs.State.{Hall, is_ready}
@@ -8,8 +8,8 @@ use Rattle.house.specs.Changes.{with_stations, with_late, with_messages}
 use Rattle.house.specs.Turning.{turns}
 
 -- a station; the house is ready
-abbrev pub open_questions : Phase → Hall → (s : ℕ) → List Question
-open_questions p h s = ask (nat_lt s h.n) 4 ∷ ask (is_ready p) 12 ∷ []
+abbrev pub open_questions : Phase → Hall → (s : ℕ) → List (Question Code)
+open_questions p h s = ask (nat_lt s h.n) (number 4) ∷ ask (is_ready p) (number 12) ∷ []
 
 -- marks and unreported numbers, late list and messages are cleared
 abbrev pub cleared_station : Station → Station

@@ -1,6 +1,7 @@
 -- The plain house: sheets and slips under way; no colours, no counts, no limits on cells or numbers.
 use Rattle.std.specs.Prelude.{◌≡◌, ℕ, ◌+◌, Bool, true, cond, ◌&&◌, List, [], ◌∷◌, ◌++◌, length, replicate, ℤ, is_some, Some, None, Option, nat_lt, slice_index, slice_index_or, slice_set}
-use Rattle.sections.specs.Rule.{Rule, admits, blank_sheet, entered, debited, credited}
+use Rattle.common.specs.Questions.{all_yes}
+use Rattle.sections.specs.Rule.{Rule, blank_sheet, entered, debited, credited}
 use Rattle.house.specs.declared.slip.Slip.{Slip}
 use Rattle.house.specs.Names.{find, without}
 
@@ -28,18 +29,18 @@ has_station p s = nat_lt s (length p.sheets)
 abbrev pub plain_take : Rule → PlainHouse → Option Slip → Option PlainHouse
 plain_take rule p None = None
 plain_take rule p (Some x) =
-    cond (admits (rule.credit (plain_sheet p x.receiver) x.line x.amount))
+    cond (all_yes (rule.credit (plain_sheet p x.receiver) x.line x.amount))
     (Some (record { sheets = slice_set p.sheets x.receiver (credited (plain_sheet p x.receiver) x.line x.amount); posted = p.posted; under_way = without x.sender x.number p.under_way }))
     None
 
 -- one event; None where it is refused: no such station, no such slip, or the section does not admit it
 abbrev pub plain_step : Rule → PlainHouse → Event → Option PlainHouse
 plain_step rule p (enters s a b r) =
-    cond (has_station p s && admits (rule.entry (plain_sheet p s) a b r))
+    cond (has_station p s && all_yes (rule.entry (plain_sheet p s) a b r))
     (Some (record { sheets = slice_set p.sheets s (entered (plain_sheet p s) (rule.gain a b r)); posted = p.posted; under_way = p.under_way }))
     None
 plain_step rule p (posts s to line amount) =
-    cond ((has_station p s && has_station p to) && admits (rule.debit (plain_sheet p s) line amount))
+    cond ((has_station p s && has_station p to) && all_yes (rule.debit (plain_sheet p s) line amount))
     (Some (record { sheets = slice_set p.sheets s (debited (plain_sheet p s) line amount); posted = slice_set p.posted s (slice_index p.posted s + 1); under_way = p.under_way ++ (record { sender = s; number = slice_index p.posted s + 1; receiver = to; line = line; amount = amount } ∷ []) }))
     None
 plain_step rule p (takes a b) = plain_take rule p (find a b p.under_way)

@@ -1,23 +1,24 @@
 -- post: an amount leaves a station's sheet, and a slip is under way.
 use Rattle.std.specs.Prelude.{ℕ, ◌+◌, ◌&&◌, List, [], ◌∷◌, ◌++◌, length, ℤ, pos, ◌+ℤ◌, nat_lt}
+use Rattle.common.specs.Limits.{line_count, most_posts}
 use Rattle.sections.specs.Rule.{Rule, debited}
-use Rattle.methods.specs.Questions.{Question, ask}
+use Rattle.sections.specs.Codes.{section_code}
+use Rattle.common.specs.Questions.{Question, Code, ask, number, told_as}
 use Rattle.house.specs.declared.slip.Slip.{Slip}
 use Rattle.house.specs.declared.station.Station.{Station}
 use Rattle.house.specs.State.{Hall, at, sheet_at}
 use Rattle.house.specs.Changes.{with_sheet, with_station, with_tray}
-use Rattle.house.specs.Asking.{section?, small}
+use Rattle.house.specs.Asking.{is_deficit}
 
 -- both stations; the line; fewer than 1,000,000 posts; the deficit afterwards; a free tray cell; the section
-abbrev pub post_questions : Rule → Hall → (s to line : ℕ) (amount : ℤ) → List Question
+abbrev pub post_questions : Rule → Hall → (s to line : ℕ) (amount : ℤ) → List (Question Code)
 post_questions rule h s to line amount =
-    ask (nat_lt s h.n && nat_lt to h.n) 4
-    ∷ ask (nat_lt line 32) 5
-    ∷ ask (nat_lt (at h s).posted 1000000) 7
-    ∷ ask (small ((at h s).running +ℤ pos 1)) 8
-    ∷ ask (nat_lt (length h.tray) h.tray_cells) 9
-    ∷ section? (rule.debit (sheet_at h s) line amount)
-    ∷ []
+    ask (nat_lt s h.n && nat_lt to h.n) (number 4)
+    ∷ ask (nat_lt line line_count) (number 5)
+    ∷ ask (nat_lt (at h s).posted most_posts) (number 7)
+    ∷ ask (is_deficit ((at h s).running +ℤ pos 1)) (number 8)
+    ∷ ask (nat_lt (length h.tray) h.tray_cells) (number 9)
+    ∷ told_as section_code (rule.debit (sheet_at h s) line amount)
 
 -- posted number and running deficit rise by one
 abbrev pub posted_station : Station → Station

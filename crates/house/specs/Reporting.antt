@@ -1,6 +1,6 @@
 -- report: a station tells of one late slip, and the counting method hears of an arrival.
 use Rattle.std.specs.Prelude.{ℕ, ◌-◌, List, [], ◌∷◌, nat_lt}
-use Rattle.methods.specs.Questions.{Question, ask}
+use Rattle.common.specs.Questions.{Question, Code, ask, number}
 use Rattle.methods.specs.Model.{Model, arrival_questions}
 use Rattle.house.specs.declared.phase.Phase.{Phase}
 use Rattle.house.specs.declared.station.Station.{Station}
@@ -8,12 +8,12 @@ use Rattle.house.specs.State.{Hall, House, at, is_counting}
 use Rattle.house.specs.Changes.{with_station, more_messages}
 
 -- a station; a count is open; the root has gathered; the station has something to report
-abbrev pub report_questions : Phase → Hall → (s : ℕ) → List Question
+abbrev pub report_questions : Phase → Hall → (s : ℕ) → List (Question Code)
 report_questions p h s =
-    ask (nat_lt s h.n) 4
-    ∷ ask (is_counting p) 13
-    ∷ ask (at h 0).gathered 18
-    ∷ ask (nat_lt 0 (at h s).unreported) 19
+    ask (nat_lt s h.n) (number 4)
+    ∷ ask (is_counting p) (number 13)
+    ∷ ask (at h 0).gathered (number 18)
+    ∷ ask (nat_lt 0 (at h s).unreported) (number 19)
     ∷ []
 
 abbrev pub reported_station : Station → Station
@@ -23,7 +23,7 @@ abbrev pub reported_hall : Hall → (s : ℕ) → Hall
 reported_hall h s = with_station h s (reported_station (at h s))
 
 -- the method is asked too
-abbrev pub heard_questions : (m : Model) → House m.State → (s : ℕ) → List Question
+abbrev pub heard_questions : (m : Model) → House m.State → (s : ℕ) → List (Question Code)
 heard_questions m x s = arrival_questions (m.stations x.method) (m.outstanding x.method) s
 
 -- what the method sends is counted

@@ -1,7 +1,7 @@
 -- make, one step, and histories: lists of calls with refusals left in.
 use Rattle.std.specs.Prelude.{◌≡◌, ℕ, Bool, true, false, List, [], ◌∷◌, Some, None, Option}
 use Rattle.sections.specs.Rule.{Rule}
-use Rattle.methods.specs.Questions.{first_no}
+use Rattle.common.specs.Questions.{first_no}
 use Rattle.methods.specs.Model.{Model}
 use Rattle.house.specs.State.{House}
 use Rattle.house.specs.Making.{make_questions, made_house}

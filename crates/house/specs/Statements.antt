@@ -1,15 +1,17 @@
 -- What is proved of every count, for every list of calls from a made house.
 use Rattle.std.specs.Prelude.{◌≡◌, ℕ, ◌<◌, true, false, ◌↔◌, List, ◌++◌, map, ℤ, pos, None}
+use Rattle.common.specs.Limits.{line_count}
 use Rattle.std.specs.List.{AllByRecursion}
 use Rattle.std.specs.List.Sorted.{IsPermutation}
 use Rattle.sections.specs.Rule.{Rule}
-use Rattle.methods.specs.Questions.{first_no}
+use Rattle.common.specs.Questions.{first_no}
 use Rattle.methods.specs.Model.{Model}
 use Rattle.house.specs.Names.{slips_of}
 use Rattle.house.specs.State.{Hall, House, is_counting}
 use Rattle.house.specs.Calls.{Call, enter, post, take, open', turn, gather, report, close, file, Answer, nothing, number, sum, sent, receipt, filed, house_questions, method_questions}
 use Rattle.house.specs.Runs.{done, refused, make, step, run, Told, told_no, told_ok, all_told, accepted, is_done, History, past}
-use Rattle.house.specs.CountText.{sum_of, score}
+use Rattle.common.specs.Sums.{sum_of}
+use Rattle.house.specs.CountText.{score}
 use Rattle.house.specs.Filing.{text_of}
 use Rattle.house.specs.PlainHouse.{Event, enters, posts, takes, blank, plain_run, RefusesNone}
 use Rattle.house.specs.Cut.{cut_of}
@@ -57,7 +59,7 @@ gain_of rule line (takes a b) = pos 0
 -- each line's score is what the entries before the turns gave it
 abbrev pub ClosesWithScores : (m : Model) → Rule → (x y : House m.State) → Type 0
 ClosesWithScores m rule x y =
-    (history : History m rule x) (line : ℕ) → line < 32 →
+    (history : History m rule x) (line : ℕ) → line < line_count →
     score y.hall.recorded (slips_of y.hall.late) line ≡ sum_of (gain_of rule line) (cut_of (past m rule x history)).before
 
 -- at every granted close

@@ -1,7 +1,8 @@
 -- take: a slip under way arrives at its receiver.
 use Rattle.std.specs.Prelude.{ℕ, ◌+◌, Bool, false, cond, not, ◌&&◌, List, [], ◌∷◌, ◌++◌, length, ℤ, pos, ◌-ℤ◌, Some, None, Option, nat_lt}
 use Rattle.sections.specs.Rule.{Rule, credited}
-use Rattle.methods.specs.Questions.{Question, ask}
+use Rattle.sections.specs.Codes.{section_code}
+use Rattle.common.specs.Questions.{Question, Code, ask, number, told_as}
 use Rattle.house.specs.declared.phase.Phase.{Phase}
 use Rattle.house.specs.declared.slip.ColouredSlip.{ColouredSlip}
 use Rattle.house.specs.declared.station.Station.{Station}
@@ -9,7 +10,7 @@ use Rattle.house.specs.State.{Hall, at, sheet_at, is_counting}
 use Rattle.house.specs.Changes.{with_sheet, with_station, with_tray, with_late}
 use Rattle.house.specs.Names.{find_coloured, without_coloured}
 use Rattle.house.specs.Colours.{differ}
-use Rattle.house.specs.Asking.{section?, small}
+use Rattle.house.specs.Asking.{is_deficit}
 use Rattle.house.specs.Turning.{turns}
 
 -- the slip's colour is not its receiver's
@@ -28,12 +29,11 @@ abbrev pub running_after : Phase → Hall → ColouredSlip → ℤ
 running_after p h x = cond (turns_receiver p h x) (pos 0) (at h x.slip.receiver).running -ℤ pos 1
 
 -- a slip under way; if late a free late cell, else the deficit; the section
-abbrev pub take_questions : Rule → Phase → Hall → Option ColouredSlip → List Question
-take_questions rule p h None = ask false 10 ∷ []
+abbrev pub take_questions : Rule → Phase → Hall → Option ColouredSlip → List (Question Code)
+take_questions rule p h None = ask false (number 10) ∷ []
 take_questions rule p h (Some x) =
-    cond (is_late p h x) (ask (nat_lt (length h.late) h.late_cells) 11) (ask (small (running_after p h x)) 8)
-    ∷ section? (rule.credit (sheet_at h x.slip.receiver) x.slip.line x.slip.amount)
-    ∷ []
+    cond (is_late p h x) (ask (nat_lt (length h.late) h.late_cells) (number 11)) (ask (is_deficit (running_after p h x)) (number 8))
+    ∷ told_as section_code (rule.credit (sheet_at h x.slip.receiver) x.slip.line x.slip.amount)
 
 -- the running deficit falls by one
 abbrev pub took_station : Station → Station

@@ -1,6 +1,6 @@
 -- turn: a station's part of the count.
 use Rattle.std.specs.Prelude.{ℕ, true, not, List, [], ◌∷◌, pos, nat_lt}
-use Rattle.methods.specs.Questions.{Question, ask}
+use Rattle.common.specs.Questions.{Question, Code, ask, number}
 use Rattle.house.specs.declared.phase.Phase.{Phase}
 use Rattle.house.specs.declared.station.Station.{Station}
 use Rattle.house.specs.State.{Hall, at, sheet_at, is_counting}
@@ -8,8 +8,8 @@ use Rattle.house.specs.Changes.{with_record, with_station}
 use Rattle.house.specs.Colours.{other}
 
 -- a station; a count is open; the station has not turned
-abbrev pub turn_questions : Phase → Hall → (s : ℕ) → List Question
-turn_questions p h s = ask (nat_lt s h.n) 4 ∷ ask (is_counting p) 13 ∷ ask (not (at h s).turned) 14 ∷ []
+abbrev pub turn_questions : Phase → Hall → (s : ℕ) → List (Question Code)
+turn_questions p h s = ask (nat_lt s h.n) (number 4) ∷ ask (is_counting p) (number 13) ∷ ask (not (at h s).turned) (number 14) ∷ []
 
 -- the running deficit is frozen and restarts at 0, the colour changes, the station is marked
 abbrev pub turned_station : Station → Station

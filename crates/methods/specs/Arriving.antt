@@ -1,5 +1,6 @@
 -- An arrival lowers the sum of tokens by one, leaves the root green while a token is left, and sends few messages.
 use Rattle.std.specs.Prelude.{◌≡◌, ℕ, ◌+◌, ◌-◌, ◌*◌, ◌/◌, ◌<◌, ◌≤◌, true, not, ◌&&◌, ◌≢◌, List, length, sum, nat_lt, slice_set}
+use Rattle.common.specs.Limits.{most_messages, most_stations}
 use Rattle.std.proofs.Common.{ap, sym, ◌∙◌, subst, ⊎_elim, arith, length-set, get_or-set_same, get_or-set_other}
 use Rattle.std.proofs.lemmas.List.Sums.{sum_by-set}
 use Rattle.std.proofs.lemmas.Bool.{and_cases, both_ways, cases_eq, cond_both, lt-ltb, ltb-false, ltb-true, not-false}
@@ -49,9 +50,9 @@ pub record Arrives (ts : List ℕ) (o : Outcome) : Type 0 where
   pub total : sum o.after.tokens + 1 ≡ sum ts
   pub long : length o.after.tokens ≡ length ts
   pub rooted : 0 < sum o.after.tokens → o.after.limit < 2 * tokens_at o.after.tokens 0
-  pub few : o.sent ≤ 1000
+  pub few : o.sent ≤ most_messages
 
-pays_own_lem : (limit : ℕ) (ts : List ℕ) (i : ℕ) → length ts ≤ 64 → i < length ts → limit < 2 * tokens_at ts 0 → 0 < tokens_at ts i → Arrives ts (pays_own limit ts i)
+pays_own_lem : (limit : ℕ) (ts : List ℕ) (i : ℕ) → length ts ≤ most_stations → i < length ts → limit < 2 * tokens_at ts 0 → 0 < tokens_at ts i → Arrives ts (pays_own limit ts i)
 pays_own_lem limit ts i small p root some =
     let one = paid_total ts i p some in
     let long = paid_long ts i in
@@ -85,7 +86,7 @@ pays_own_lem limit ts i small p root some =
       few = omega arith;
     })
 
-pays_by_split_lem : (limit : ℕ) (ts : List ℕ) (i : ℕ) (a : Ancestor) → length ts ≤ 64 → i < length ts → limit < 2 * tokens_at ts 0 → tokens_at ts i ≡ 0 → 0 < i → Found limit ts i (length ts) a → Arrives ts (pays_by_split limit ts i a)
+pays_by_split_lem : (limit : ℕ) (ts : List ℕ) (i : ℕ) (a : Ancestor) → length ts ≤ most_stations → i < length ts → limit < 2 * tokens_at ts 0 → tokens_at ts i ≡ 0 → 0 < i → Found limit ts i (length ts) a → Arrives ts (pays_by_split limit ts i a)
 pays_by_split_lem limit ts i a small p root none up f =
     let g = a.station in
     let above = f.above in
@@ -111,7 +112,7 @@ pays_by_split_lem limit ts i a small p root none up f =
       few = omega (arith, s.few);
     }
 
-pub arrival_keeps : (limit : ℕ) (ts : List ℕ) (i : ℕ) → length ts ≤ 64 → i < length ts → limit < 2 * tokens_at ts 0 → Arrives ts (arrival limit ts i)
+pub arrival_keeps : (limit : ℕ) (ts : List ℕ) (i : ℕ) → length ts ≤ most_stations → i < length ts → limit < 2 * tokens_at ts 0 → Arrives ts (arrival limit ts i)
 unfolding arrival
 arrival_keeps limit ts i small p root =
     cond_both

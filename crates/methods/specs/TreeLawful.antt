@@ -1,5 +1,6 @@
 -- The token tree keeps what every counting method keeps.
 use Rattle.std.specs.Prelude.{◌≡◌, ℕ, ◌-◌, ◌*◌, ◌<◌, ◌≤◌, true, length, sum, ◌==◌, refl}
+use Rattle.common.specs.Limits.{most_stations, most_arrivals, most_messages}
 use Rattle.std.proofs.Common.{ap, ⊎_elim, arith}
 use Rattle.std.proofs.lemmas.List.{get_or_past}
 use Rattle.std.proofs.lemmas.List.Sums.{get_or-le-sum_by}
@@ -12,7 +13,7 @@ use Rattle.methods.specs.Tree.{Sound, tree_model}
 use Rattle.methods.specs.Arriving.{arrival_keeps}
 use Rattle.methods.specs.Dealing.{dealt_green, dealt_long, dealt_total}
 
-pub round_sound : (n w : ℕ) → 1 ≤ n → n ≤ 64 → w ≤ 8192 → Sound (new_round n w)
+pub round_sound : (n w : ℕ) → 1 ≤ n → n ≤ most_stations → w ≤ most_arrivals → Sound (new_round n w)
 round_sound n w p small few =
     let total = dealt_total n w p in
     record {
@@ -35,7 +36,7 @@ tree_lawful =
       begun_valid = λ q n w _ _ p small few. round_sound n w p small few;
       begun_stations = λ q n w _ _ p _ _. dealt_long n w;
       begun_outstanding = λ q n w _ _ p _ _. dealt_total n w p;
-      begun_few = λ q n w _ _ p small _. cond_both (w == 0) 0 (n - 1) (λ x. x ≤ 1000) (λ _. omega arith) (λ _. omega arith);
+      begun_few = λ q n w _ _ p small _. cond_both (w == 0) 0 (n - 1) (λ x. x ≤ most_messages) (λ _. omega arith) (λ _. omega arith);
       heard_valid = λ q i s p some. arrival_sound q i s p some;
       heard_stations = λ q i s p some. (arrival_keeps q.limit q.tokens i s.small p (s.rooted some)).long;
       heard_outstanding = λ q i s p some. (arrival_keeps q.limit q.tokens i s.small p (s.rooted some)).total;

@@ -1,4 +1,5 @@
 ghost use Rattle.std.specs.Prelude.{◌≡◌, ◌+◌, ◌<◌, ◌≤◌, [], length, sum};
+ghost use Rattle.common.specs.Limits.{most_stations, most_arrivals};
 ghost use Rattle.methods.specs.Deal.{new_round};
 ghost use Rattle.methods.specs.Split.{after_split, paid};
 ghost use Rattle.methods.specs.Swap.{exchange};
@@ -7,15 +8,16 @@ ghost use Rattle.methods.specs.Tokens.{green, tokens_at};
 use crate::deal::{dealt_to, limit_of};
 use crate::split::split;
 use arrayvec::ArrayVec;
+use common::limits::MOST_STATIONS;
 
 // A round of the token tree: its limit, and the tokens of each station. At most 64 stations and 8,192 tokens. Ghost fields and no
 // `Model`: what a `Model` keeps is not known to the functions that are passed one, and each step rests on these bounds.
 #[derive(Drop)]
 pub(crate) struct Round {
     limit: u16,
-    tokens: ArrayVec<u16, 64>,
-    ghost small: { length tokens.items ≤ 64 },
-    ghost few: { sum tokens.items ≤ 8192 },
+    tokens: ArrayVec<u16, MOST_STATIONS>,
+    ghost small: { length tokens.items ≤ most_stations },
+    ghost few: { sum tokens.items ≤ most_arrivals },
 }
 
 impl Round {
@@ -35,8 +37,8 @@ impl Round {
     // that their bounds are asked here.
     pub(crate) fn dealt(n: usize, total: u16) -> Round
         requires some { 1 ≤ n }
-        requires small { n ≤ 64 }
-        requires few { total ≤ 8192 }
+        requires small { n ≤ most_stations }
+        requires few { total ≤ most_arrivals }
         ensures { held result ≡ new_round n total }
     {
         let mut tokens = ArrayVec::new();
@@ -51,7 +53,7 @@ impl Round {
 
     pub(crate) fn stations(&self) -> usize
         ensures count { result ≡ length (held self.now).tokens }
-        ensures small { result ≤ 64 }
+        ensures small { result ≤ most_stations }
     {
         self.tokens.len()
     }
@@ -73,7 +75,7 @@ impl Round {
     // The tokens of all stations together.
     pub(crate) fn total(&self) -> u32
         ensures sum { result ≡ sum (held self.now).tokens }
-        ensures few { result ≤ 8192 }
+        ensures few { result ≤ most_arrivals }
     {
         self.tokens.iter().map(|t| u32::from(*t)).sum()
     }

@@ -3,7 +3,7 @@ pub mod Fields
 pub mod Letters
 pub mod Entries
 pub mod Codes
-pub mod Did
+pub mod Lines
 pub mod Texts
 pub mod Pending
 pub mod Words

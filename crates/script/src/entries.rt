@@ -1,6 +1,8 @@
 ghost use Rattle.std.specs.Prelude.{◌≡◌, ℕ, List, ℤ, Option};
 ghost use Rattle.script.specs.Entries.{entry_of};
-ghost use Rattle.script.specs.Did.{LineDid};
+ghost use Rattle.script.specs.Codes.{refusal_code};
+ghost use Rattle.script.specs.Lines.{line_questions, line_entered};
+ghost use Rattle.common.specs.Did.{Did};
 ghost use Rattle.script.specs.Letters.{chess_result};
 ghost use Rattle.script.specs.Numbers.{number};
 
@@ -56,8 +58,9 @@ pub fn read_entry<S: ResultField>(line: &[u8]) -> Option<Entry>
 }
 
 // Plays a line of a script on a sheet.
+#[tactic(auto, using(crate::proofs::Plays::entry_granted, crate::proofs::Plays::entry_refused))]
 pub fn enter_line<S: ResultField>(sheet: &mut S, line: &[u8]) -> Result<(), Refusal>
-    ensures { LineDid S.Section.rule S.Section.figures (entry_of S.ResultField.field_result line.now) sheet.old sheet.new result }
+    ensures { Did (line_questions S.Section.rule (S.Section.figures sheet.old) (entry_of S.ResultField.field_result line.now)) refusal_code (λ _. S.Section.figures sheet.new ≡ line_entered S.Section.rule (S.Section.figures sheet.old) (entry_of S.ResultField.field_result line.now)) sheet.old sheet.new result }
 {
     let entry = read_entry::<S>(line).ok_or(Refusal::Malformed)?;
     sheet.enter(entry.a, entry.b, entry.r)?;

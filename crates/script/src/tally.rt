@@ -38,7 +38,7 @@ impl Tally {
     }
 
     // Plays one line; None stands for a line that is too long.
-    #[tactic(auto, using(crate::proofs::Plays::line_granted))]
+    #[tactic(auto, using(crate::proofs::Plays::line_granted, crate::proofs::Plays::line_refused))]
     pub fn play(&mut self, line: Option<&[u8]>) -> Result<(), Refusal>
         ensures does { (round_of self.new, answer_code result) ≡ played (round_of self.old) (option_copied line.entry) }
         ensures keeps { OnErr result (self.new ≡ self.old) }

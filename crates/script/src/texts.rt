@@ -1,9 +1,10 @@
 ghost use Rattle.std.specs.Prelude.{◌≡◌, IfOk, string_bytes};
 ghost use Rattle.std.specs.Fmt.{signed_decimal};
 ghost use Rattle.script.specs.Numbers.{ReadsBack};
-ghost use Rattle.script.specs.Texts.{answer_text, scores_text};
+ghost use Rattle.script.specs.Texts.{answer_text, sheet_scores};
 
 use crate::refusal::Refusal;
+use common::limits::LINES;
 use sections::Section;
 use std::alloc::{AllocError, Global};
 
@@ -29,11 +30,11 @@ pub fn answer_text(heap: Global, answer: Result<(), Refusal>) -> Result<String, 
 // The scores of a sheet: each line whose figure is not 0, in order. Its numbers can be read back.
 #[tactic(auto, using(crate::proofs::Scores::score_steps, crate::proofs::Written::reads_back))]
 pub fn scores_text<S: Section>(heap: Global, sheet: &S) -> Result<String, AllocError>
-    ensures text { IfOk result (λ s. string_bytes s ≡ scores_text (S.Section.figures sheet.now) 32) }
+    ensures text { IfOk result (λ s. string_bytes s ≡ sheet_scores (S.Section.figures sheet.now)) }
     ensures back { ReadsBack }
 {
     let mut text = String::new(heap);
-    for line in 0..32 {
+    for line in 0..LINES {
         let figure = sheet.figure(line).unwrap();
         if figure != 0 {
             writeln!(text, "score\t{line}\t{figure}")?;

@@ -1,5 +1,6 @@
 -- Figures stay in their range.
 use Rattle.std.proofs.Common.{◌≡◌, ℕ, zero, suc, true, List, [], ◌∷◌, set, replicate, ℤ, pos, neg_ℤ, ◌≤ℤ◌, arith}
+use Rattle.common.specs.Limits.{largest_figure}
 use Rattle.std.proofs.lemmas.Int.{ints}
 use Rattle.sections.specs.Rule.{Within}
 use Rattle.sections.specs.Judged.{is_figure}
@@ -17,8 +18,8 @@ within_same n zero z low high k = (omega (arith, ints), omega (arith, ints))
 within_same n (suc m) z low high zero = (low, high)
 within_same n (suc m) z low high (suc k) = within_same n m z low high k
 
-pub figure_low : (z : ℤ) → is_figure z ≡ true → neg_ℤ (pos 20000) ≤ℤ z
+pub figure_low : (z : ℤ) → is_figure z ≡ true → neg_ℤ (pos largest_figure) ≤ℤ z
 figure_low z h = grind (arith, ints)
 
-pub figure_high : (z : ℤ) → is_figure z ≡ true → z ≤ℤ pos 20000
+pub figure_high : (z : ℤ) → is_figure z ≡ true → z ≤ℤ pos largest_figure
 figure_high z h = grind (arith, ints)

@@ -1,11 +1,14 @@
 -- The rule of bridge: figures are IMPs.
 use Rattle.std.specs.Prelude.{ℕ, ◌+◌, ◌%◌, Bool, cond, ◌&&◌, ◌||◌, List, [], ◌∷◌, ℤ, pos, ◌+ℤ◌, ◌-ℤ◌, neg_ℤ, Some, None, Option, ◌==◌, int_lt, nat_le, nat_lt, unsigned_abs}
-use Rattle.sections.specs.Rule.{Rule, Verdict, good_lines, figure_at}
-use Rattle.sections.specs.Judged.{judged, test, between, is_figure, pair_gains}
+use Rattle.common.specs.Ranges.{between, up_to}
+use Rattle.common.specs.Limits.{largest_amount, line_count}
+use Rattle.common.specs.Questions.{ask}
+use Rattle.sections.specs.Rule.{Rule, SectionQuestions, good_lines, figure_at}
+use Rattle.sections.specs.Judged.{is_figure, pair_gains}
 
 -- a result is the difference in points at a board: a multiple of ten from -15,000 to 15,000
 abbrev pub is_difference : ℤ → Bool
-is_difference r = between (neg_ℤ (pos 15000)) (pos 15000) r && unsigned_abs r % 10 == 0
+is_difference r = up_to (pos 15000) r && unsigned_abs r % 10 == 0
 
 -- the largest difference for 0, 1, 2, .. 23 IMPs
 abbrev pub limits : List ℕ
@@ -32,24 +35,23 @@ both_imps r = cond (is_difference r) (Some (imps r, neg_ℤ (imps r))) None
 
 -- a slip carries 1 to 1,000 IMPs, won or lost
 abbrev pub is_amount : ℤ → Bool
-is_amount amount = between (neg_ℤ (pos 1000)) (neg_ℤ (pos 1)) amount || between (pos 1) (pos 1000) amount
+is_amount amount = between (neg_ℤ largest_amount) (neg_ℤ (pos 1)) amount || between (pos 1) largest_amount amount
 
-abbrev pub bridge_entry : List ℤ → ℕ → ℕ → ℤ → Verdict
+abbrev pub bridge_entry : List ℤ → ℕ → ℕ → ℤ → SectionQuestions
 bridge_entry f a b r =
-    judged
-    (test (good_lines a b) 9 a
-    ∷ test (is_difference r) 1 a
-    ∷ test (is_figure (figure_at f a +ℤ imps r)) 2 a
-    ∷ test (is_figure (figure_at f b +ℤ neg_ℤ (imps r))) 2 b
-    ∷ [])
+    ask (good_lines a b) (9, a)
+    ∷ ask (is_difference r) (1, a)
+    ∷ ask (is_figure (figure_at f a +ℤ imps r)) (2, a)
+    ∷ ask (is_figure (figure_at f b +ℤ neg_ℤ (imps r))) (2, b)
+    ∷ []
 
-abbrev pub bridge_debit : List ℤ → ℕ → ℤ → Verdict
+abbrev pub bridge_debit : List ℤ → ℕ → ℤ → SectionQuestions
 bridge_debit f line amount =
-    judged (test (nat_lt line 32) 9 line ∷ test (is_amount amount) 3 line ∷ test (is_figure (figure_at f line -ℤ amount)) 2 line ∷ [])
+    ask (nat_lt line line_count) (9, line) ∷ ask (is_amount amount) (3, line) ∷ ask (is_figure (figure_at f line -ℤ amount)) (2, line) ∷ []
 
-abbrev pub bridge_credit : List ℤ → ℕ → ℤ → Verdict
+abbrev pub bridge_credit : List ℤ → ℕ → ℤ → SectionQuestions
 bridge_credit f line amount =
-    judged (test (nat_lt line 32) 9 line ∷ test (is_amount amount) 3 line ∷ test (is_figure (figure_at f line +ℤ amount)) 2 line ∷ [])
+    ask (nat_lt line line_count) (9, line) ∷ ask (is_amount amount) (3, line) ∷ ask (is_figure (figure_at f line +ℤ amount)) (2, line) ∷ []
 
 abbrev pub bridge : Rule
 bridge = record { entry = bridge_entry; debit = bridge_debit; credit = bridge_credit; gain = λ a b r. pair_gains a b (both_imps r) }

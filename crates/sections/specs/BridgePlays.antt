@@ -1,14 +1,15 @@
 -- A sheet that gives IMPs plays the rule of bridge.
 use Rattle.std.proofs.Common.{◌≡◌, ℕ, Bool, true, false, List, ℤ, refl, arith}
 use Rattle.std.proofs.lemmas.Int.{ints}
+use Rattle.common.specs.Questions.{first_no}
 use Rattle.sections.specs.Judged.{pair_entry}
 use Rattle.sections.specs.Scored.{Plays, AmountsAreSmall}
 use Rattle.sections.specs.Bridge.{bridge, bridge_entry, is_amount, is_difference, both_imps}
 
-entry_plays : (f : List ℤ) (a b : ℕ) (r : ℤ) → bridge_entry f a b r ≡ pair_entry f a b (both_imps r)
+entry_plays : (f : List ℤ) (a b : ℕ) (r : ℤ) → first_no (bridge_entry f a b r) ≡ first_no (pair_entry f a b (both_imps r))
 entry_plays f a b r = go (is_difference r) refl
   where
-    go : (t : Bool) → is_difference r ≡ t → bridge_entry f a b r ≡ pair_entry f a b (both_imps r)
+    go : (t : Bool) → is_difference r ≡ t → first_no (bridge_entry f a b r) ≡ first_no (pair_entry f a b (both_imps r))
     go true p = rw p
     go false p = rw p
 

@@ -1,9 +1,9 @@
--- The number, cause and line of a section's refusal.
+-- The cause and line of a section's refusal, and its number.
 use Rattle.std.specs.Prelude.{ℕ}
+use Rattle.common.specs.Questions.{Code}
 use Rattle.sections.specs.declared.fault.Fault.{Fault}
 use Rattle.sections.specs.declared.fault.Cause.{Cause}
 use Rattle.sections.specs.declared.fault.Cause.TheVariants.{BadLines, BadResult, BadAmount, TooLittle, OutOfRange}
-use Rattle.sections.specs.Rule.{Verdict, admitted, denied}
 
 abbrev pub cause_number : Cause → ℕ
 cause_number BadResult = 1
@@ -12,11 +12,13 @@ cause_number BadAmount = 3
 cause_number TooLittle = 4
 cause_number BadLines = 9
 
--- whatever a section refuses has number 6
-abbrev pub fault_code : Fault → ℕ × ℕ × ℕ
-fault_code f = (6, cause_number f.cause, f.line)
+-- what a section's questions tell
+abbrev pub cause_and_line : Fault → ℕ × ℕ
+cause_and_line f = (cause_number f.cause, f.line)
 
--- the same of what a rule says; an admitted call has none
-abbrev pub verdict_code : Verdict → ℕ × ℕ × ℕ
-verdict_code admitted = (0, 0, 0)
-verdict_code (denied cause line) = (6, cause, line)
+-- whatever a section refuses has number 6
+abbrev pub section_code : ℕ × ℕ → Code
+section_code told = (6, told.0, told.1)
+
+abbrev pub fault_code : Fault → Code
+fault_code f = section_code (cause_and_line f)

@@ -1,7 +1,6 @@
 pub mod Rule
 pub mod Codes
 pub mod Lines
-pub mod Did
 pub mod Judged
 pub mod Scored
 pub mod Sheet

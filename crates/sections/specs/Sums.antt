@@ -1,7 +1,8 @@
 -- A line's sum over several sheets.
-use Rattle.std.specs.Prelude.{ℕ, List, ℤ, pos, ◌+ℤ◌, fold}
+use Rattle.std.specs.Prelude.{ℕ, List, ℤ}
+use Rattle.common.specs.Sums.{sum_of}
 use Rattle.sections.specs.Rule.{figure_at}
 
--- by what a sheet of the section means
+-- by what a sheet means
 abbrev pub line_sum : {S : Type 0} → (S → List ℤ) → ℕ → List S → ℤ
-line_sum figures line sheets = fold (λ sum s. sum +ℤ figure_at (figures s) line) (pos 0) sheets
+line_sum figures line sheets = sum_of (λ s. figure_at (figures s) line) sheets

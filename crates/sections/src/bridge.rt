@@ -3,6 +3,7 @@ ghost use Rattle.sections.specs.Bridge.{bridge, both_imps, is_amount};
 ghost use Rattle.sections.specs.BridgePlays.{bridge_plays, bridge_amounts};
 ghost use Rattle.std.proofs.Common.{rules};
 
+use common::limits::LARGEST_AMOUNT;
 use crate::imps::both_imps;
 use crate::scoring::Scoring;
 use crate::sheet::Sheet;
@@ -34,7 +35,7 @@ impl Scoring for BridgeScoring {
     }
 
     fn is_amount(amount: i32) -> bool {
-        amount != 0 && (-1_000..=1_000).contains(&amount)
+        amount != 0 && (-LARGEST_AMOUNT..=LARGEST_AMOUNT).contains(&amount)
     }
 
     fn covers(_figure: i32, _amount: i32) -> bool {

@@ -3,6 +3,7 @@ ghost use Rattle.sections.specs.Chess.{chess, half_points, is_amount};
 ghost use Rattle.sections.specs.ChessPlays.{chess_plays, chess_amounts};
 ghost use Rattle.std.proofs.Common.{rules};
 
+use common::limits::LARGEST_AMOUNT;
 use crate::game::Game;
 use crate::scoring::Scoring;
 use crate::sheet::Sheet;
@@ -35,7 +36,7 @@ impl Scoring for ChessScoring {
     }
 
     fn is_amount(amount: i32) -> bool {
-        (1..=1_000).contains(&amount)
+        (1..=LARGEST_AMOUNT).contains(&amount)
     }
 
     fn covers(figure: i32, amount: i32) -> bool {

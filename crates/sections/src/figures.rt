@@ -1,9 +1,12 @@
 ghost use Rattle.std.specs.Prelude.{◌≡◌, length, ◌+ℤ◌, Some, slice_set};
+ghost use Rattle.common.specs.Limits.{line_count, largest_figure};
 ghost use Rattle.sections.specs.Rule.{Within, blank_sheet, figure_at, entered, credited};
 ghost use Rattle.sections.specs.Lines.{ReadsLine};
-ghost use Rattle.sections.specs.Did.{Did};
-ghost use Rattle.sections.specs.Judged.{figure_verdict, pair_gains, pair_entry};
+ghost use Rattle.common.specs.Did.{Did};
+ghost use Rattle.sections.specs.Codes.{cause_and_line};
+ghost use Rattle.sections.specs.Judged.{figure_questions, pair_gains, pair_entry};
 
+use common::limits::{LARGEST_FIGURE, LINES};
 use crate::fault::{Cause, Fault};
 use crate::line::Line;
 use crate::pair::Pair;
@@ -11,16 +14,16 @@ use crate::pair::Pair;
 // The 32 figures of a sheet, each from -20,000 to 20,000.
 #[derive(Clone, Copy, Debug, PartialEq, Eq)]
 pub(crate) struct Figures {
-    values: [i16; 32],
-    ghost size: { length values ≡ 32 },
-    ghost range: { Within 20000 values },
+    values: [i16; LINES as usize],
+    ghost size: { length values ≡ line_count },
+    ghost range: { Within largest_figure values },
 }
 
 impl Figures {
     pub(crate) fn zero() -> Figures
         ensures { result.values ≡ blank_sheet }
     {
-        Figures { values: [0; 32] }
+        Figures { values: [0; LINES as usize] }
     }
 
     pub(crate) fn at(&self, line: Line) -> i32
@@ -39,9 +42,9 @@ impl Figures {
 
     // A new figure of a line, where it is in the range.
     fn put(&mut self, line: Line, figure: i64) -> Result<(), Fault>
-        ensures { Did (λ s. s.values) (figure_verdict figure line.number) (slice_set self.old.values line.number figure) self.old self.new result }
+        ensures { Did (figure_questions figure line.number) cause_and_line (λ _. self.new.values ≡ slice_set self.old.values line.number figure) self.old self.new result }
     {
-        if !(-20_000..=20_000).contains(&figure) {
+        if !(-LARGEST_FIGURE..=LARGEST_FIGURE).contains(&figure) {
             return Err(Fault::new(Cause::OutOfRange, line.number()));
         }
         // that the figure fits in 16 bits is proved of the cast; `try_from` would ask it a second time
@@ -51,14 +54,14 @@ impl Figures {
 
     // Adds to the figure of a line, where it stays in the range.
     pub(crate) fn add(&mut self, line: Line, by: i32) -> Result<(), Fault>
-        ensures { Did (λ s. s.values) (figure_verdict (figure_at self.old.values line.number +ℤ by) line.number) (credited self.old.values line.number by) self.old self.new result }
+        ensures { Did (figure_questions (figure_at self.old.values line.number +ℤ by) line.number) cause_and_line (λ _. self.new.values ≡ credited self.old.values line.number by) self.old self.new result }
     {
         self.put(line, i64::from(self.at(line)) + i64::from(by))
     }
 
     // Adds to the figures of two lines, where both stay in the range.
     fn add_pair(&mut self, pair: Pair, x: i32, y: i32) -> Result<(), Fault>
-        ensures { Did (λ s. s.values) (pair_entry self.old.values pair.a.number pair.b.number (Some (x, y))) (entered self.old.values (pair_gains pair.a.number pair.b.number (Some (x, y)))) self.old self.new result }
+        ensures { Did (pair_entry self.old.values pair.a.number pair.b.number (Some (x, y))) cause_and_line (λ _. self.new.values ≡ entered self.old.values (pair_gains pair.a.number pair.b.number (Some (x, y)))) self.old self.new result }
     {
         let mut next = *self;
         next.add(pair.first(), x)?;
@@ -69,7 +72,7 @@ impl Figures {
 
     // An entry: each of two lines gains its part of the result, where there is one.
     pub(crate) fn enter(&mut self, a: u32, b: u32, gains: Option<(i32, i32)>) -> Result<(), Fault>
-        ensures { Did (λ s. s.values) (pair_entry self.old.values a b gains) (entered self.old.values (pair_gains a b gains)) self.old self.new result }
+        ensures { Did (pair_entry self.old.values a b gains) cause_and_line (λ _. self.new.values ≡ entered self.old.values (pair_gains a b gains)) self.old self.new result }
     {
         let pair = Pair::new(a, b)?;
         let Some((first, second)) = gains else {

@@ -1,5 +1,7 @@
-ghost use Rattle.std.specs.Prelude.{◌≡◌, true, false, MatchResult};
-ghost use Rattle.sections.specs.Codes.{fault_code};
+ghost use Rattle.std.specs.Prelude.{◌≡◌, true, [], ◌∷◌};
+ghost use Rattle.common.specs.Did.{Answers};
+ghost use Rattle.common.specs.Questions.{ask};
+ghost use Rattle.sections.specs.Codes.{cause_and_line};
 ghost use Rattle.sections.specs.Rule.{good_lines};
 
 use crate::fault::{Cause, Fault};
@@ -15,7 +17,7 @@ pub(crate) struct Pair {
 
 impl Pair {
     pub(crate) fn new(a: u32, b: u32) -> Result<Pair, Fault>
-        ensures { MatchResult result (λ p. (good_lines a b ≡ true) × (p.a.number ≡ a) × (p.b.number ≡ b)) (λ f. (good_lines a b ≡ false) × (fault_code f ≡ (6, 9, a))) }
+        ensures { Answers (ask (good_lines a b) (9, a) ∷ []) cause_and_line (λ p. (p.a.number ≡ a) × (p.b.number ≡ b)) result }
     {
         let fault = Fault::new(Cause::BadLines, a);
         let first = Line::new(a)?;

@@ -1,5 +1,8 @@
-ghost use Rattle.std.specs.Prelude.{◌≡◌, ◌<◌, ◌≤◌, true, false, IfOk, IfErr};
-ghost use Rattle.sections.specs.Codes.{fault_code};
+ghost use Rattle.std.specs.Prelude.{◌≡◌, [], ◌∷◌, nat_lt};
+ghost use Rattle.common.specs.Did.{Answers};
+ghost use Rattle.common.specs.Questions.{ask};
+ghost use Rattle.common.specs.Limits.{line_count};
+ghost use Rattle.sections.specs.Codes.{cause_and_line};
 
 use crate::fault::{Cause, Fault};
 use crate::figures::Figures;
@@ -18,9 +21,7 @@ pub struct Sheet<K: Scoring> {
 impl<K: Scoring> Sheet<K> {
     // The line of a debit or a credit, whose amount a slip may carry.
     fn line_of_amount(line: u32, amount: i32) -> Result<Line, Fault>
-        ensures granted { IfOk result (λ at. (line < 32) × (K.is_amount amount ≡ true) × (at.number ≡ line)) }
-        ensures bad_line { IfErr result (λ f. 32 ≤ line → fault_code f ≡ (6, 9, line)) }
-        ensures bad_amount { IfErr result (λ f. line < 32 → (K.is_amount amount ≡ false) × (fault_code f ≡ (6, 3, line))) }
+        ensures { Answers (ask (nat_lt line line_count) (9, line) ∷ ask (K.is_amount amount) (3, line) ∷ []) cause_and_line (λ at. at.number ≡ line) result }
     {
         let at = Line::new(line)?;
         if !K::is_amount(amount) {

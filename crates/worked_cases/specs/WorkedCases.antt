@@ -1,6 +1,8 @@
 -- Ten worked cases of the rules, for chess, for bridge and for the token tree.
-use Rattle.std.specs.Prelude.{ℕ, ◌≤◌, ◌≡◌, List, [], ◌∷◌, ℤ, pos, neg_ℤ, slice_set}
-use Rattle.sections.specs.Rule.{Rule, admitted, blank_sheet, denied, entered, figure_at}
+use Rattle.std.specs.Prelude.{ℕ, ◌≤◌, ◌≡◌, List, [], ◌∷◌, ℤ, pos, neg_ℤ, Some, None, slice_set}
+use Rattle.common.specs.Limits.{most_stations}
+use Rattle.common.specs.Questions.{first_no}
+use Rattle.sections.specs.Rule.{Rule, blank_sheet, entered, figure_at}
 use Rattle.sections.specs.Chess.{chess}
 use Rattle.sections.specs.Bridge.{bridge}
 use Rattle.methods.specs.Model.{Model}
@@ -10,13 +12,13 @@ use Rattle.methods.specs.Tree.{tree_model}
 abbrev pub line_zero_has : ℤ → List ℤ
 line_zero_has figure = slice_set blank_sheet 0 figure
 
--- an entry between lines 0 and 1 is admitted, and leaves that figure at line 0
+-- an entry between lines 0 and 1 is granted, and leaves that figure at line 0
 abbrev pub LeavesAtZero : Rule → List ℤ → (r : ℤ) → (figure : ℤ) → Type 0
-LeavesAtZero rule f r figure = (rule.entry f 0 1 r ≡ admitted) × (figure_at (entered f (rule.gain 0 1 r)) 0 ≡ figure)
+LeavesAtZero rule f r figure = (first_no (rule.entry f 0 1 r) ≡ None) × (figure_at (entered f (rule.gain 0 1 r)) 0 ≡ figure)
 
--- it is not admitted, for that cause at line 0
+-- it is refused, for that cause at line 0
 abbrev pub DeniedAtZero : Rule → List ℤ → (r : ℤ) → (cause : ℕ) → Type 0
-DeniedAtZero rule f r cause = rule.entry f 0 1 r ≡ denied cause 0
+DeniedAtZero rule f r cause = first_no (rule.entry f 0 1 r) ≡ Some (cause, 0)
 
 -- a difference on a blank sheet gives line 0 so many IMPs, and line 1 the opposite
 abbrev pub GivesImps : (difference imps : ℤ) → Type 0
@@ -42,4 +44,4 @@ pub record WorkedCases : Type 0 where
   pub tree_of_3_deals_5_as_2_2_1 : (begun tree_model 3 5).tokens ≡ 2 ∷ 2 ∷ 1 ∷ []
   pub then_arrivals_at_2_2_1_1_0_cost_0_4_0_12_8 : sent_at tree_model (begun tree_model 3 5) (2 ∷ 2 ∷ 1 ∷ 1 ∷ 0 ∷ []) ≡ 0 ∷ 4 ∷ 0 ∷ 12 ∷ 8 ∷ []
   pub tree_of_4_with_1_an_arrival_at_3_costs_13 : sent_at tree_model (begun tree_model 4 1) (3 ∷ []) ≡ 13 ∷ []
-  pub nothing_to_wait_for_sends_nothing : (n : ℕ) → 1 ≤ n → n ≤ 64 → (tree_model.outstanding (begun tree_model n 0) ≡ 0) × (tree_model.begin_sent tree_model.fresh n 0 ≡ 0)
+  pub nothing_to_wait_for_sends_nothing : (n : ℕ) → 1 ≤ n → n ≤ most_stations → (tree_model.outstanding (begun tree_model n 0) ≡ 0) × (tree_model.begin_sent tree_model.fresh n 0 ≡ 0)

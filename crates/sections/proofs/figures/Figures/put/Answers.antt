@@ -1,4 +1,5 @@
 use Rattle.std.proofs.Common.{◌≡◌, true, arith, w16, w64, to_z, of_z, rules}
+use Rattle.common.specs.Limits.{largest_figure}
 use Rattle.std.proofs.lemmas.Int.{ints}
 use Rattle.sections.specs.Judged.{is_figure}
 use Rattle.sections.proofs.Ranges.{figure_low, figure_high, within_set}
@@ -10,4 +11,4 @@ invariant_of-self-clause-range c =
     let low = figure_low c.args.figure yes? in
     let high = figure_high c.args.figure yes? in
     let stored : to_z w16 (of_z w16 (to_z w64 (of_z w64 c.args.figure))) ≡ c.args.figure = omega (arith, ints) in
-    rw stored (within_set 20000 c.args.self.now.values c.number-2.result c.args.figure low high c.args.self.now.range)
+    rw stored (within_set largest_figure c.args.self.now.values c.number-2.result c.args.figure low high c.args.self.now.range)
