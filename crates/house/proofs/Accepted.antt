@@ -45,26 +45,32 @@ module _ (rule : Rule) (c : Cut) (p : Phase) (h : Hall) (out : ℕ) (so : Sound 
 
 -- what the method owes after a begin and after an arrival
 module _ (m : Model) (ml : models.Lawful m) (rule : Rule) (c : Cut) (x : House m.State) (k : Holds m rule c x) where
-  pub begun_left : (s : ℕ) → eqb s 0 ≡ true → AllYes (root_questions m x s) → (pos (m.rules.outstanding (m.rules.begun x.method x.hall.n (nat_abs (sum_at x.hall s)))) ≡ sum_at x.hall s) × (m.rules.stations (m.rules.begun x.method x.hall.n (nat_abs (sum_at x.hall s))) ≡ x.hall.n) × m.Valid (m.rules.begun x.method x.hall.n (nat_abs (sum_at x.hall s)))
-  begun_left s e y =
+  pub can_begin : (s : ℕ) → eqb s 0 ≡ true → AllYes (root_questions m x s) → models.CanBegin m x.method x.hall.n (nat_abs (sum_at x.hall s))
+  can_begin s e y =
       let y' : AllYes (begin_questions (m.rules.outstanding x.method) x.hall.n (sum_at x.hall s)) = rw e at y in
       let q = and_parts _ _ y'.0 in
-      let f = fits_begin (sum_at x.hall s) q.1 in
-      let w = nat_abs (sum_at x.hall s) in
-      let can : models.CanBegin m x.method x.hall.n w =
       record {
         valid = k.served.valid;
         idle = eqb-true (m.rules.outstanding x.method) 0 y'.1.0;
         some_stations = k.sound.shape.some';
         few_stations = k.sound.shape.few;
-        few_arrivals = f.1;
-      } in
-      (ap pos (ml.begun_outstanding x.method x.hall.n w can) ∙ f.0, ml.begun_stations x.method x.hall.n w can, ml.begun_valid x.method x.hall.n w can)
+        few_arrivals = (fits_begin (sum_at x.hall s) q.1).1;
+      }
+
+  pub begun_left : (s : ℕ) → eqb s 0 ≡ true → AllYes (root_questions m x s) → (pos (m.rules.outstanding (m.rules.begun x.method x.hall.n (nat_abs (sum_at x.hall s)))) ≡ sum_at x.hall s) × (m.rules.stations (m.rules.begun x.method x.hall.n (nat_abs (sum_at x.hall s))) ≡ x.hall.n) × m.Valid (m.rules.begun x.method x.hall.n (nat_abs (sum_at x.hall s)))
+  begun_left s e y =
+      let y' : AllYes (begin_questions (m.rules.outstanding x.method) x.hall.n (sum_at x.hall s)) = rw e at y in
+      let q = and_parts _ _ y'.0 in
+      let w = nat_abs (sum_at x.hall s) in
+      let can = can_begin s e y in
+      (ap pos (ml.begun_outstanding x.method x.hall.n w can) ∙ (fits_begin (sum_at x.hall s) q.1).0, ml.begun_stations x.method x.hall.n w can, ml.begun_valid x.method x.hall.n w can)
+
+  pub can_arrive : (s : ℕ) → AllYes (arrived_questions m x s) → models.CanArrive m x.method s
+  can_arrive s y = record { valid = k.served.valid; counted = ltb-true s (m.rules.stations x.method) y.0; awaited = ltb-true 0 (m.rules.outstanding x.method) y.1.0 }
 
   pub arrived_left : (s : ℕ) → AllYes (arrived_questions m x s) → (m.rules.outstanding (m.rules.arrived x.method s) + 1 ≡ m.rules.outstanding x.method) × (m.rules.stations (m.rules.arrived x.method s) ≡ m.rules.stations x.method) × m.Valid (m.rules.arrived x.method s)
   arrived_left s y =
-      let can : models.CanArrive m x.method s =
-      record { valid = k.served.valid; counted = ltb-true s (m.rules.stations x.method) y.0; awaited = ltb-true 0 (m.rules.outstanding x.method) y.1.0 } in
+      let can = can_arrive s y in
       (ml.arrived_outstanding x.method s can, ml.arrived_stations x.method s can, ml.arrived_valid x.method s can)
 
   abbrev p : Phase

@@ -23,13 +23,13 @@ use Rattle.house.specs.Taking.{is_late, turns_receiver, took_station, late_stati
 use Rattle.house.specs.Turning.{turned_station, turns}
 use Rattle.common.proofs.AllYes.{AllYes, all_yes_lem, yes_parts}
 use Rattle.house.proofs.Halls.{field_put, field_kept, find_coloured_lem}
+use Rattle.house.proofs.Accepted.{can_begin, can_arrive}
 use Rattle.house.proofs.Histories.{accepted_holds, made_yes, made_holds}
 use Rattle.house.proofs.Holding.{Holds}
 use Rattle.house.proofs.Outcomes.{outcome_answer}
 use Rattle.house.proofs.Rounds.{mapped}
 use Rattle.house.proofs.Sums.{get_or-same}
 use Rattle.house.proofs.Totals.{sum_n, sum_n_put, sum_n_none}
-use Rattle.house.proofs.Willing.{fits_begin}
 use Rattle.house.proofs.Views.{put_other}
 use Rattle.methods.specs.Model as models
 
@@ -107,17 +107,7 @@ module _ (m : Model) (ml : models.Lawful m) (rule : Rule) (c : Cut) (x : House m
   below s lt = rw k.sound.shape.stations lt
 
   begun_few : (s : ℕ) → eqb s 0 ≡ true → AllYes (root_questions m x s) → m.rules.begin_sent x.method x.hall.n (nat_abs (sum_at x.hall s)) ≤ 1000
-  begun_few s e y =
-      let y' : AllYes (begin_questions (m.rules.outstanding x.method) x.hall.n (sum_at x.hall s)) = rw e at y in
-      let q = and_parts _ _ y'.0 in
-      ml.begun_few x.method x.hall.n (nat_abs (sum_at x.hall s))
-      (record {
-         valid = k.served.valid;
-         idle = eqb-true (m.rules.outstanding x.method) 0 y'.1.0;
-         some_stations = k.sound.shape.some';
-         few_stations = k.sound.shape.few;
-         few_arrivals = (fits_begin (sum_at x.hall s) q.1).1;
-       })
+  begun_few s e y = ml.begun_few x.method x.hall.n (nat_abs (sum_at x.hall s)) (can_begin m ml rule c x k s e y)
 
   gather_few : (s : ℕ) → AllYes (gather_questions x.phase x.hall s) → AllYes (root_questions m x s) → FewIn (after_gather m x s).hall
   gather_few s y z = go (eqb s 0) refl
@@ -150,9 +140,7 @@ module _ (m : Model) (ml : models.Lawful m) (rule : Rule) (c : Cut) (x : House m
   accepted_few (gather s) y z = gather_few s y z
   accepted_few (report s) y z =
       let lt = ltb-true s h.n y.0 in
-      let a = ltb-true s (m.rules.stations x.method) z.0 in
-      let b = ltb-true 0 (m.rules.outstanding x.method) z.1.0 in
-      few_report h.n h.stations (length h.late) h.messages f s (below s lt) lt (ltb-true 0 (at h s).unreported y.1.1.1.0) (m.rules.arrived_sent x.method s) (ml.arrived_few x.method s (record { valid = k.served.valid; counted = a; awaited = b }))
+      few_report h.n h.stations (length h.late) h.messages f s (below s lt) lt (ltb-true 0 (at h s).unreported y.1.1.1.0) (m.rules.arrived_sent x.method s) (ml.arrived_few x.method s (can_arrive m ml rule c x k s z))
   accepted_few close y z = f
   accepted_few (file told text) y z = f
 
