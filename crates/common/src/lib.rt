@@ -1,4 +1,4 @@
-// What the crates are to share; nothing uses it yet. Its definitions are in specs/.
+// What the other crates share: definitions, in specs/, lemmas on them, and the limits as constants.
 #![tactic(auto)]
 
 pub mod limits;

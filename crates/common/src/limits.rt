@@ -1,4 +1,5 @@
-// The limits of the congress, as code names them; specs/Limits has the same for definitions, and no proof ties the two yet.
+// The limits of the congress, as code names them; specs/Limits has the same for definitions, and the proofs of the functions that
+// test a limit tie the two.
 
 // A sheet has lines 0 to 31.
 pub const LINES: u32 = 32;

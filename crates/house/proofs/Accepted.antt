@@ -11,7 +11,7 @@ use Rattle.house.specs.Changes.{with_messages, with_hall}
 use Rattle.house.specs.Cut.{Cut, cut_after}
 use Rattle.house.specs.Gathering.{gathered_below, gather_questions, sum_at, gathered_hall, root_questions, root_gathers, after_gather}
 use Rattle.house.specs.Names.{find_coloured, slips_of}
-use Rattle.house.specs.Reporting.{heard_questions}
+use Rattle.house.specs.Reporting.{arrived_questions}
 use Rattle.house.specs.State.{Hall, House, at, sheet_at}
 use Rattle.house.specs.Taking.{take_questions, arrived, taken_hall, under_way}
 use Rattle.common.proofs.AllYes.{AllYes, told_tested}
@@ -45,27 +45,33 @@ module _ (rule : Rule) (c : Cut) (p : Phase) (h : Hall) (out : ℕ) (so : Sound 
 
 -- what the method owes after a begin and after an arrival
 module _ (m : Model) (ml : models.Lawful m) (rule : Rule) (c : Cut) (x : House m.State) (k : Holds m rule c x) where
-  pub begun_left : (s : ℕ) → eqb s 0 ≡ true → AllYes (root_questions m x s) → (pos (m.outstanding (m.begun x.method x.hall.n (nat_abs (sum_at x.hall s)))) ≡ sum_at x.hall s) × (m.stations (m.begun x.method x.hall.n (nat_abs (sum_at x.hall s))) ≡ x.hall.n) × m.Valid (m.begun x.method x.hall.n (nat_abs (sum_at x.hall s)))
-  begun_left s e y =
-      let y' : AllYes (begin_questions (m.outstanding x.method) x.hall.n (sum_at x.hall s)) = rw e at y in
+  pub can_begin : (s : ℕ) → eqb s 0 ≡ true → AllYes (root_questions m x s) → models.CanBegin m x.method x.hall.n (nat_abs (sum_at x.hall s))
+  can_begin s e y =
+      let y' : AllYes (begin_questions (m.rules.outstanding x.method) x.hall.n (sum_at x.hall s)) = rw e at y in
       let q = and_parts _ _ y'.0 in
-      let f = fits_begin (sum_at x.hall s) q.1 in
-      let o = eqb-true (m.outstanding x.method) 0 y'.1.0 in
-      let v = k.served.valid in
-      let n1 = k.sound.shape.some' in
-      let n2 = k.sound.shape.few in
-      let w = nat_abs (sum_at x.hall s) in (
-        ap pos (ml.begun_outstanding x.method x.hall.n w v o n1 n2 f.1) ∙ f.0,
-        ml.begun_stations x.method x.hall.n w v o n1 n2 f.1,
-        ml.begun_valid x.method x.hall.n w v o n1 n2 f.1,
-      )
+      record {
+        valid = k.served.valid;
+        idle = eqb-true (m.rules.outstanding x.method) 0 y'.1.0;
+        some_stations = k.sound.shape.some';
+        few_stations = k.sound.shape.few;
+        few_arrivals = (fits_begin (sum_at x.hall s) q.1).1;
+      }
 
-  pub heard_left : (s : ℕ) → AllYes (heard_questions m x s) → (m.outstanding (m.heard x.method s) + 1 ≡ m.outstanding x.method) × (m.stations (m.heard x.method s) ≡ m.stations x.method) × m.Valid (m.heard x.method s)
-  heard_left s y =
-      let a = ltb-true s (m.stations x.method) y.0 in
-      let b = ltb-true 0 (m.outstanding x.method) y.1.0 in
-      let v = k.served.valid in
-      (ml.heard_outstanding x.method s v a b, ml.heard_stations x.method s v a b, ml.heard_valid x.method s v a b)
+  pub begun_left : (s : ℕ) → eqb s 0 ≡ true → AllYes (root_questions m x s) → (pos (m.rules.outstanding (m.rules.begun x.method x.hall.n (nat_abs (sum_at x.hall s)))) ≡ sum_at x.hall s) × (m.rules.stations (m.rules.begun x.method x.hall.n (nat_abs (sum_at x.hall s))) ≡ x.hall.n) × m.Valid (m.rules.begun x.method x.hall.n (nat_abs (sum_at x.hall s)))
+  begun_left s e y =
+      let y' : AllYes (begin_questions (m.rules.outstanding x.method) x.hall.n (sum_at x.hall s)) = rw e at y in
+      let q = and_parts _ _ y'.0 in
+      let w = nat_abs (sum_at x.hall s) in
+      let can = can_begin s e y in
+      (ap pos (ml.begun_outstanding x.method x.hall.n w can) ∙ (fits_begin (sum_at x.hall s) q.1).0, ml.begun_stations x.method x.hall.n w can, ml.begun_valid x.method x.hall.n w can)
+
+  pub can_arrive : (s : ℕ) → AllYes (arrived_questions m x s) → models.CanArrive m x.method s
+  can_arrive s y = record { valid = k.served.valid; counted = ltb-true s (m.rules.stations x.method) y.0; awaited = ltb-true 0 (m.rules.outstanding x.method) y.1.0 }
+
+  pub arrived_left : (s : ℕ) → AllYes (arrived_questions m x s) → (m.rules.outstanding (m.rules.arrived x.method s) + 1 ≡ m.rules.outstanding x.method) × (m.rules.stations (m.rules.arrived x.method s) ≡ m.rules.stations x.method) × m.Valid (m.rules.arrived x.method s)
+  arrived_left s y =
+      let can = can_arrive s y in
+      (ml.arrived_outstanding x.method s can, ml.arrived_stations x.method s can, ml.arrived_valid x.method s can)
 
   abbrev p : Phase
   p = x.phase
@@ -74,22 +80,22 @@ module _ (m : Model) (ml : models.Lawful m) (rule : Rule) (c : Cut) (x : House m
   h = x.hall
 
   abbrev out : ℕ
-  out = m.outstanding x.method
+  out = m.rules.outstanding x.method
 
-  gather_kept : (s : ℕ) → AllYes (gather_questions x.phase x.hall s) → AllYes (root_questions m x s) → Sound rule c (after_gather m x s).phase (after_gather m x s).hall (m.outstanding (after_gather m x s).method)
+  gather_kept : (s : ℕ) → AllYes (gather_questions x.phase x.hall s) → AllYes (root_questions m x s) → Sound rule c (after_gather m x s).phase (after_gather m x s).hall (m.rules.outstanding (after_gather m x s).method)
   gather_kept s y z = go (eqb s 0) refl
     where
       q : (gathered_below x.hall (2 * s + 1) ≡ true) × (gathered_below x.hall (2 * s + 2) ≡ true)
       q = and_parts _ _ y.1.1.1.1.0
 
-      gathers : (messages left : ℕ) → (eqb s 0 ≡ true → pos left ≡ sum_at x.hall s) → (eqb s 0 ≡ false → left ≡ m.outstanding x.method) → Sound rule c x.phase (with_messages (gathered_hall x.hall s) messages) left
-      gathers messages left root else' = gather_sound rule c x.phase x.hall (m.outstanding x.method) k.sound (is_counting_lem x.phase y.1.0) s messages left root else' (ltb-true s x.hall.n y.0) y.1.1.0 (not-true _ y.1.1.1.0) q.0 q.1
+      gathers : (messages left : ℕ) → (eqb s 0 ≡ true → pos left ≡ sum_at x.hall s) → (eqb s 0 ≡ false → left ≡ m.rules.outstanding x.method) → Sound rule c x.phase (with_messages (gathered_hall x.hall s) messages) left
+      gathers messages left root else' = gather_sound rule c x.phase x.hall (m.rules.outstanding x.method) k.sound (is_counting_lem x.phase y.1.0) s messages left root else' (ltb-true s x.hall.n y.0) y.1.1.0 (not-true _ y.1.1.1.0) q.0 q.1
 
-      go : (b : Bool) → eqb s 0 ≡ b → Sound rule c (cond b (root_gathers m x s) (with_hall x (gathered_hall x.hall s))).phase (cond b (root_gathers m x s) (with_hall x (gathered_hall x.hall s))).hall (m.outstanding (cond b (root_gathers m x s) (with_hall x (gathered_hall x.hall s))).method)
+      go : (b : Bool) → eqb s 0 ≡ b → Sound rule c (cond b (root_gathers m x s) (with_hall x (gathered_hall x.hall s))).phase (cond b (root_gathers m x s) (with_hall x (gathered_hall x.hall s))).hall (m.rules.outstanding (cond b (root_gathers m x s) (with_hall x (gathered_hall x.hall s))).method)
       go true e = gathers _ _ (λ _. (begun_left s e z).0) (λ f. absurd (true≢false (sym e ∙ f)))
       go false e = gathers x.hall.messages _ (λ f. absurd (true≢false (sym f ∙ e))) (λ _. refl)
 
-  pub accepted_sound : (call : Call) → AllYes (house_questions rule x.phase x.hall (m.outstanding x.method) call) → AllYes (method_questions m x call) → Sound rule (cut_after c call) (after m rule x call).phase (after m rule x call).hall (m.outstanding (after m rule x call).method)
+  pub accepted_sound : (call : Call) → AllYes (house_questions rule x.phase x.hall (m.rules.outstanding x.method) call) → AllYes (method_questions m x call) → Sound rule (cut_after c call) (after m rule x call).phase (after m rule x call).hall (m.rules.outstanding (after m rule x call).method)
   accepted_sound (enter s a b r) y z = enter_sound rule c p h out k.sound s a b r (ltb-true s h.n y.0) (told_tested section_code (rule.entry (sheet_at h s) a b r) y.1.1)
   accepted_sound (post s to line amount) y z =
       let q = and_parts _ _ y.0 in
@@ -101,7 +107,7 @@ module _ (m : Model) (ml : models.Lawful m) (rule : Rule) (c : Cut) (x : House m
       let lt = ltb-true s h.n y.0 in
       turn_sound rule c p h out k.sound ph s lt (sym ((during_of rule c p h out k.sound ph).colouring.marked s lt) ∙ not-true _ y.1.1.0)
   accepted_sound (gather s) y z = gather_kept s y z
-  accepted_sound (report s) y z = report_sound rule c p h out k.sound (is_counting_lem p y.1.0) s _ _ (heard_left s z).0 (ltb-true s h.n y.0) y.1.1.0 (ltb-true 0 (at h s).unreported y.1.1.1.0)
+  accepted_sound (report s) y z = report_sound rule c p h out k.sound (is_counting_lem p y.1.0) s _ _ (arrived_left s z).0 (ltb-true s h.n y.0) y.1.1.0 (ltb-true 0 (at h s).unreported y.1.1.1.0)
   accepted_sound close y z =
       let ph = is_counting_lem p y.0 in
       close_sound rule c p h out k.sound (during_of rule c p h out k.sound ph) y.1.0 (eqb-true out 0 y.1.1.0)

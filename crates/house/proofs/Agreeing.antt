@@ -21,7 +21,7 @@ use Rattle.house.specs.State.{Hall, House, at}
 use Rattle.house.specs.Statements.{messages_aside, told_aside, MethodsAgree}
 use Rattle.house.specs.Taking.{is_late, turns_receiver, take_questions, arrives, arrives_late, taken_hall, under_way}
 use Rattle.house.specs.Turning.{turns}
-use Rattle.house.proofs.Accepted.{begun_left, heard_left}
+use Rattle.house.proofs.Accepted.{begun_left, arrived_left}
 use Rattle.common.proofs.AllYes.{AllYes, all_yes_lem, yes_parts}
 use Rattle.house.proofs.Histories.{accepted_holds, made_yes, made_holds}
 use Rattle.house.proofs.Holding.{Holds}
@@ -142,27 +142,27 @@ phase_after_lem m rule x (file told text) = refl
 record Same (m k : Model) (x : House m.State) (y : House k.State) : Type 0 where
   phase : x.phase ≡ y.phase
   hall : aside x.hall ≡ aside y.hall
-  outstanding : m.outstanding x.method ≡ k.outstanding y.method
+  outstanding : m.rules.outstanding x.method ≡ k.rules.outstanding y.method
 
 module _ (m k : Model) (ml : models.Lawful m) (kl : models.Lawful k) (rule : Rule) where
   same_questions : (c d : Cut) (x : House m.State) (y : House k.State) (call : Call) → Holds m rule c x → Holds k rule d y → Same m k x y → first_no (questions m rule x call) ≡ first_no (questions k rule y call)
   same_questions c d x y call hx hy s =
       house_decides m rule c x hx call
-      ∙ ap first_no (questions_aside rule x.phase x.hall (m.outstanding x.method) call)
-      ∙ ap (λ p. first_no (house_questions rule p (aside x.hall) (m.outstanding x.method) call)) s.phase
-      ∙ ap (λ h. first_no (house_questions rule y.phase h (m.outstanding x.method) call)) s.hall
+      ∙ ap first_no (questions_aside rule x.phase x.hall (m.rules.outstanding x.method) call)
+      ∙ ap (λ p. first_no (house_questions rule p (aside x.hall) (m.rules.outstanding x.method) call)) s.phase
+      ∙ ap (λ h. first_no (house_questions rule y.phase h (m.rules.outstanding x.method) call)) s.hall
       ∙ ap (λ o. first_no (house_questions rule y.phase (aside y.hall) o call)) s.outstanding
-      ∙ sym (ap first_no (questions_aside rule y.phase y.hall (k.outstanding y.method) call))
+      ∙ sym (ap first_no (questions_aside rule y.phase y.hall (k.rules.outstanding y.method) call))
       ∙ sym (house_decides k rule d y hy call)
 
   same_reply : (x : House m.State) (y : House k.State) (call : Call) → Same m k x y → messages_aside (reply m x call) ≡ messages_aside (reply k y call)
   same_reply x y call s = reply_aside m x call ∙ ap (λ h. plain_reply h call) s.hall ∙ sym (reply_aside k y call)
 
   -- after a begin the methods wait for the same sum, after an arrival for one fewer
-  gather_outstanding : (c d : Cut) (x : House m.State) (y : House k.State) (s : ℕ) → Holds m rule c x → Holds k rule d y → Same m k x y → AllYes (root_questions m x s) → AllYes (root_questions k y s) → m.outstanding (after_gather m x s).method ≡ k.outstanding (after_gather k y s).method
+  gather_outstanding : (c d : Cut) (x : House m.State) (y : House k.State) (s : ℕ) → Holds m rule c x → Holds k rule d y → Same m k x y → AllYes (root_questions m x s) → AllYes (root_questions k y s) → m.rules.outstanding (after_gather m x s).method ≡ k.rules.outstanding (after_gather k y s).method
   gather_outstanding c d x y s hx hy sa yx yy = go (eqb s 0) refl
     where
-      go : (b : Bool) → eqb s 0 ≡ b → m.outstanding (cond b (root_gathers m x s) (with_hall x (gathered_hall x.hall s))).method ≡ k.outstanding (cond b (root_gathers k y s) (with_hall y (gathered_hall y.hall s))).method
+      go : (b : Bool) → eqb s 0 ≡ b → m.rules.outstanding (cond b (root_gathers m x s) (with_hall x (gathered_hall x.hall s))).method ≡ k.rules.outstanding (cond b (root_gathers k y s) (with_hall y (gathered_hall y.hall s))).method
       go true e =
           let a = (begun_left m ml rule c x hx s e yx).0 in
           let b = (begun_left k kl rule d y hy s e yy).0 in
@@ -170,7 +170,7 @@ module _ (m k : Model) (ml : models.Lawful m) (kl : models.Lawful k) (rule : Rul
           ap nat_abs (a ∙ h ∙ sym b)
       go false e = sa.outstanding
 
-  same_outstanding : (c d : Cut) (x : House m.State) (y : House k.State) (call : Call) → Holds m rule c x → Holds k rule d y → Same m k x y → AllYes (method_questions m x call) → AllYes (method_questions k y call) → m.outstanding (after m rule x call).method ≡ k.outstanding (after k rule y call).method
+  same_outstanding : (c d : Cut) (x : House m.State) (y : House k.State) (call : Call) → Holds m rule c x → Holds k rule d y → Same m k x y → AllYes (method_questions m x call) → AllYes (method_questions k y call) → m.rules.outstanding (after m rule x call).method ≡ k.rules.outstanding (after k rule y call).method
   same_outstanding c d x y (enter s a b r) hx hy sa yx yy = sa.outstanding
   same_outstanding c d x y (post s to line amount) hx hy sa yx yy = sa.outstanding
   same_outstanding c d x y (take a b) hx hy sa yx yy = sa.outstanding
@@ -178,8 +178,8 @@ module _ (m k : Model) (ml : models.Lawful m) (kl : models.Lawful k) (rule : Rul
   same_outstanding c d x y (turn s) hx hy sa yx yy = sa.outstanding
   same_outstanding c d x y (gather s) hx hy sa yx yy = gather_outstanding c d x y s hx hy sa yx yy
   same_outstanding c d x y (report s) hx hy sa yx yy =
-      let a = (heard_left m ml rule c x hx s yx).0 in
-      let b = (heard_left k kl rule d y hy s yy).0 in
+      let a = (arrived_left m ml rule c x hx s yx).0 in
+      let b = (arrived_left k kl rule d y hy s yy).0 in
       let o = sa.outstanding in
       omega arith
   same_outstanding c d x y close hx hy sa yx yy = sa.outstanding
@@ -187,8 +187,8 @@ module _ (m k : Model) (ml : models.Lawful m) (kl : models.Lawful k) (rule : Rul
 
   same_after : (c d : Cut) (x : House m.State) (y : House k.State) (call : Call) → Holds m rule c x → Holds k rule d y → Same m k x y → first_no (questions m rule x call) ≡ None → first_no (questions k rule y call) ≡ None → Same m k (after m rule x call) (after k rule y call)
   same_after c d x y call hx hy sa ex ey =
-      let yx = yes_parts (house_questions rule x.phase x.hall (m.outstanding x.method) call) (method_questions m x call) (all_yes_lem (questions m rule x call) ex) in
-      let yy = yes_parts (house_questions rule y.phase y.hall (k.outstanding y.method) call) (method_questions k y call) (all_yes_lem (questions k rule y call) ey) in
+      let yx = yes_parts (house_questions rule x.phase x.hall (m.rules.outstanding x.method) call) (method_questions m x call) (all_yes_lem (questions m rule x call) ex) in
+      let yy = yes_parts (house_questions rule y.phase y.hall (k.rules.outstanding y.method) call) (method_questions k y call) (all_yes_lem (questions k rule y call) ey) in
       record {
         phase = phase_after_lem m rule x call ∙ ap (λ p. phase_after p call) sa.phase ∙ sym (phase_after_lem k rule y call);
         hall =
@@ -234,8 +234,8 @@ methods_agree m k ml kl rule n sheets recorded tray_cells late_cells p q vp vq x
       phase = ap (λ (z : House m.State). z.phase) gx.1 ∙ sym (ap (λ (z : House k.State). z.phase) gy.1);
       hall = ap (λ (z : House m.State). aside z.hall) gx.1 ∙ sym (ap (λ (z : House k.State). aside z.hall) gy.1);
       outstanding =
-          ap (λ (z : House m.State). m.outstanding z.method) gx.1 ∙ eqb-true (m.outstanding p) 0 gx.0.1.1.1.0
-          ∙ sym (ap (λ (z : House k.State). k.outstanding z.method) gy.1 ∙ eqb-true (k.outstanding q) 0 gy.0.1.1.1.0);
+          ap (λ (z : House m.State). m.rules.outstanding z.method) gx.1 ∙ eqb-true (m.rules.outstanding p) 0 gx.0.1.1.1.0
+          ∙ sym (ap (λ (z : House k.State). k.rules.outstanding z.method) gy.1 ∙ eqb-true (k.rules.outstanding q) 0 gy.0.1.1.1.0);
     } in
     let r = run_agrees m k ml kl rule calls no_cut no_cut x y hx hy sa in
     let h = r.1.hall in (

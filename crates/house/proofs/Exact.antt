@@ -41,7 +41,7 @@ module _ (m : Model) (ml : models.Lawful m) (rule : Rule) where
     where
       go : (o : Option (ℕ × ℕ × ℕ)) → first_no (questions m rule x call) ≡ o → ((c' : Cut) (g' : Progress) (x' : House m.State) → Holds m rule c' x' → Kept g' x'.phase x'.hall → Kept (progress_after_all c' g' (accepted m rule x' calls)) (run m rule x' calls).phase (run m rule x' calls).hall) → Kept (progress_after_all c g (only_done (outcome o (after m rule x call) (reply m x call)) call (accepted m rule (next x (outcome o (after m rule x call) (reply m x call))) calls))) (run m rule (next x (outcome o (after m rule x call) (reply m x call))) calls).phase (run m rule (next x (outcome o (after m rule x call) (reply m x call))) calls).hall
       go None e ih =
-          let y = yes_parts (house_questions rule x.phase x.hall (m.outstanding x.method) call) (method_questions m x call) (all_yes_lem (questions m rule x call) e) in
+          let y = yes_parts (house_questions rule x.phase x.hall (m.rules.outstanding x.method) call) (method_questions m x call) (all_yes_lem (questions m rule x call) e) in
           ih (cut_after c call) (progress_after c g call) (after m rule x call) (accepted_holds m ml rule c x call k e) (accepted_kept m rule c g x k.sound kept call y.0)
       go (Some code) e ih = ih c g x k kept
 
@@ -87,7 +87,7 @@ close_is_exact m ml rule x history = (
     p = x.phase
 
     out : ℕ
-    out = m.outstanding x.method
+    out = m.rules.outstanding x.method
 
     holds : Holds m rule c x
     holds = history_holds m ml rule x history

@@ -23,13 +23,13 @@ use Rattle.house.specs.Taking.{is_late, turns_receiver, took_station, late_stati
 use Rattle.house.specs.Turning.{turned_station, turns}
 use Rattle.common.proofs.AllYes.{AllYes, all_yes_lem, yes_parts}
 use Rattle.house.proofs.Halls.{field_put, field_kept, find_coloured_lem}
+use Rattle.house.proofs.Accepted.{can_begin, can_arrive}
 use Rattle.house.proofs.Histories.{accepted_holds, made_yes, made_holds}
 use Rattle.house.proofs.Holding.{Holds}
 use Rattle.house.proofs.Outcomes.{outcome_answer}
 use Rattle.house.proofs.Rounds.{mapped}
 use Rattle.house.proofs.Sums.{get_or-same}
 use Rattle.house.proofs.Totals.{sum_n, sum_n_put, sum_n_none}
-use Rattle.house.proofs.Willing.{fits_begin}
 use Rattle.house.proofs.Views.{put_other}
 use Rattle.methods.specs.Model as models
 
@@ -106,11 +106,8 @@ module _ (m : Model) (ml : models.Lawful m) (rule : Rule) (c : Cut) (x : House m
   below : (s : ℕ) → s < x.hall.n → s < length x.hall.stations
   below s lt = rw k.sound.shape.stations lt
 
-  begun_few : (s : ℕ) → eqb s 0 ≡ true → AllYes (root_questions m x s) → m.begin_sent x.method x.hall.n (nat_abs (sum_at x.hall s)) ≤ 1000
-  begun_few s e y =
-      let y' : AllYes (begin_questions (m.outstanding x.method) x.hall.n (sum_at x.hall s)) = rw e at y in
-      let q = and_parts _ _ y'.0 in
-      ml.begun_few x.method x.hall.n (nat_abs (sum_at x.hall s)) k.served.valid (eqb-true (m.outstanding x.method) 0 y'.1.0) k.sound.shape.some' k.sound.shape.few (fits_begin (sum_at x.hall s) q.1).1
+  begun_few : (s : ℕ) → eqb s 0 ≡ true → AllYes (root_questions m x s) → m.rules.begin_sent x.method x.hall.n (nat_abs (sum_at x.hall s)) ≤ 1000
+  begun_few s e y = ml.begun_few x.method x.hall.n (nat_abs (sum_at x.hall s)) (can_begin m ml rule c x k s e y)
 
   gather_few : (s : ℕ) → AllYes (gather_questions x.phase x.hall s) → AllYes (root_questions m x s) → FewIn (after_gather m x s).hall
   gather_few s y z = go (eqb s 0) refl
@@ -119,7 +116,7 @@ module _ (m : Model) (ml : models.Lawful m) (rule : Rule) (c : Cut) (x : House m
       l = below s (ltb-true s x.hall.n y.0)
 
       go : (b : Bool) → eqb s 0 ≡ b → FewIn (cond b (root_gathers m x s) (with_hall x (gathered_hall x.hall s))).hall
-      go true e = few_root x.hall.n x.hall.stations (length x.hall.late) x.hall.messages f s l e (not-true _ y.1.1.1.0) (m.begin_sent x.method x.hall.n (nat_abs (sum_at x.hall s))) (begun_few s e z)
+      go true e = few_root x.hall.n x.hall.stations (length x.hall.late) x.hall.messages f s l e (not-true _ y.1.1.1.0) (m.rules.begin_sent x.method x.hall.n (nat_abs (sum_at x.hall s))) (begun_few s e z)
       go false e = few_other x.hall.n x.hall.stations (length x.hall.late) x.hall.messages f s l e
 
   take_few : (a b : ℕ) (o : Option ColouredSlip) → under_way x.hall a b ≡ o → FewIn (taken_hall x.phase x.hall o)
@@ -132,7 +129,7 @@ module _ (m : Model) (ml : models.Lawful m) (rule : Rule) (c : Cut) (x : House m
       let z = sum_n_none (λ t. (get_or (map cleared_station x.hall.stations) t fresh).unreported) x.hall.n (λ t _. ap (λ u. u.unreported) (mapped x.hall.stations t)) in
       few_set x.hall.n (map cleared_station x.hall.stations) 0 0 (rw z (omega arith)) s ls (turned_station (at (cleared x.hall) s)) refl refl
 
-  accepted_few : (call : Call) → AllYes (house_questions rule x.phase x.hall (m.outstanding x.method) call) → AllYes (method_questions m x call) → FewIn (after m rule x call).hall
+  accepted_few : (call : Call) → AllYes (house_questions rule x.phase x.hall (m.rules.outstanding x.method) call) → AllYes (method_questions m x call) → FewIn (after m rule x call).hall
   accepted_few (enter s a b r) y z = f
   accepted_few (post s to line amount) y z =
       let q = and_parts _ _ y.0 in
@@ -143,9 +140,7 @@ module _ (m : Model) (ml : models.Lawful m) (rule : Rule) (c : Cut) (x : House m
   accepted_few (gather s) y z = gather_few s y z
   accepted_few (report s) y z =
       let lt = ltb-true s h.n y.0 in
-      let a = ltb-true s (m.stations x.method) z.0 in
-      let b = ltb-true 0 (m.outstanding x.method) z.1.0 in
-      few_report h.n h.stations (length h.late) h.messages f s (below s lt) lt (ltb-true 0 (at h s).unreported y.1.1.1.0) (m.heard_sent x.method s) (ml.heard_few x.method s k.served.valid a b)
+      few_report h.n h.stations (length h.late) h.messages f s (below s lt) lt (ltb-true 0 (at h s).unreported y.1.1.1.0) (m.rules.arrived_sent x.method s) (ml.arrived_few x.method s (can_arrive m ml rule c x k s z))
   accepted_few close y z = f
   accepted_few (file told text) y z = f
 
@@ -156,7 +151,7 @@ module _ (m : Model) (ml : models.Lawful m) (rule : Rule) where
     where
       go : (o : Option (ℕ × ℕ × ℕ)) → first_no (questions m rule x call) ≡ o → ((c' : Cut) (x' : House m.State) → Holds m rule c' x' → FewIn x'.hall → FewIn (run m rule x' calls).hall) → FewIn (run m rule (next x (outcome o (after m rule x call) (reply m x call))) calls).hall
       go None e ih =
-          let y = yes_parts (house_questions rule x.phase x.hall (m.outstanding x.method) call) (method_questions m x call) (all_yes_lem (questions m rule x call) e) in
+          let y = yes_parts (house_questions rule x.phase x.hall (m.rules.outstanding x.method) call) (method_questions m x call) (all_yes_lem (questions m rule x call) e) in
           ih (cut_after c call) (after m rule x call) (accepted_holds m ml rule c x call k e) (accepted_few m ml rule c x k f call y.0 y.1)
       go (Some code) e ih = ih c x k f
 

@@ -25,11 +25,11 @@ begun? p h = is_counting p && (at h 0).gathered
 -- the method is in a state of its kind; it is idle unless it has begun, and then it counts the stations of the house
 pub record Served (m : Model) (p : Phase) (h : Hall) (q : m.State) : Type 0 where
   pub valid : m.Valid q
-  pub idle : begun? p h ≡ false → m.outstanding q ≡ 0
-  pub counted : begun? p h ≡ true → m.stations q ≡ h.n
+  pub idle : begun? p h ≡ false → m.rules.outstanding q ≡ 0
+  pub counted : begun? p h ≡ true → m.rules.stations q ≡ h.n
 
 pub record Holds (m : Model) (rule : Rule) (c : Cut) (x : House m.State) : Type 0 where
-  pub sound : Sound rule c x.phase x.hall (m.outstanding x.method)
+  pub sound : Sound rule c x.phase x.hall (m.rules.outstanding x.method)
   pub room : Room x.hall
   pub served : Served m x.phase x.hall x.method
 

@@ -101,15 +101,15 @@ gathered_ordered m r c x s k = go (eqb s 0)
     go false = k
 
 module _ (m : Model) (ml : models.Lawful m) (rule : Rule) where
-  accepted_ordered : (c : Cut) (x : House m.State) → Sound rule c x.phase x.hall (m.outstanding x.method) → Ordered rule c x.hall → (call : Call) → AllYes (house_questions rule x.phase x.hall (m.outstanding x.method) call) → Ordered rule (cut_after c call) (after m rule x call).hall
+  accepted_ordered : (c : Cut) (x : House m.State) → Sound rule c x.phase x.hall (m.rules.outstanding x.method) → Ordered rule c x.hall → (call : Call) → AllYes (house_questions rule x.phase x.hall (m.rules.outstanding x.method) call) → Ordered rule (cut_after c call) (after m rule x call).hall
   accepted_ordered c x so k (enter s a b r) y =
       ap (λ (q : PlainHouse). q.under_way) (run_push rule (blank x.hall.n) c.all (enters s a b r))
       ∙ entry_stays rule (plain_run rule (blank x.hall.n) c.all) s a b r ∙ k
   accepted_ordered c x so k (post s to line amount) y =
       let q = and_parts _ _ y.0 in
-      post_ordered rule c x.phase x.hall (m.outstanding x.method) so k s to line amount q.0 q.1 (told_tested section_code (rule.debit (sheet_at x.hall s) line amount) y.1.1.1.1.1)
+      post_ordered rule c x.phase x.hall (m.rules.outstanding x.method) so k s to line amount q.0 q.1 (told_tested section_code (rule.debit (sheet_at x.hall s) line amount) y.1.1.1.1.1)
       ∙ sym (slips_push x.hall.tray (record { slip = posted_slip x.hall s to line amount; colour = (at x.hall s).colour }))
-  accepted_ordered c x so k (take a b) y = taken_ordered rule c x.phase x.hall (m.outstanding x.method) so k a b (under_way x.hall a b) refl y
+  accepted_ordered c x so k (take a b) y = taken_ordered rule c x.phase x.hall (m.rules.outstanding x.method) so k a b (under_way x.hall a b) refl y
   accepted_ordered c x so k (open' s) y = k
   accepted_ordered c x so k (turn s) y = k
   accepted_ordered c x so k (gather s) y = gathered_ordered m rule c x s k
@@ -123,7 +123,7 @@ module _ (m : Model) (ml : models.Lawful m) (rule : Rule) where
     where
       go : (f : Option (ℕ × ℕ × ℕ)) → first_no (questions m rule x call) ≡ f → ((c' : Cut) (x' : House m.State) → Holds m rule c' x' → Ordered rule c' x'.hall → Ordered rule (cut_after_all c' (accepted m rule x' calls)) (run m rule x' calls).hall) → Ordered rule (cut_after_all c (only_done (outcome f (after m rule x call) (reply m x call)) call (accepted m rule (next x (outcome f (after m rule x call) (reply m x call))) calls))) (run m rule (next x (outcome f (after m rule x call) (reply m x call))) calls).hall
       go None e ih =
-          let y = yes_parts (house_questions rule x.phase x.hall (m.outstanding x.method) call) (method_questions m x call) (all_yes_lem (questions m rule x call) e) in
+          let y = yes_parts (house_questions rule x.phase x.hall (m.rules.outstanding x.method) call) (method_questions m x call) (all_yes_lem (questions m rule x call) e) in
           ih (cut_after c call) (after m rule x call) (accepted_holds m ml rule c x call k e) (accepted_ordered c x k.sound o call y.0)
       go (Some code) e ih = ih c x k o
 
@@ -139,7 +139,7 @@ house_is_its_plain_run m ml rule x history =
     let k = history_holds m ml rule x history in
     let c = cut_of (past m rule x history) in
     record {
-      refuses_none = run_refuses_none rule c x.phase x.hall (m.outstanding x.method) k.sound;
-      sheets = run_sheets rule c x.phase x.hall (m.outstanding x.method) k.sound;
+      refuses_none = run_refuses_none rule c x.phase x.hall (m.rules.outstanding x.method) k.sound;
+      sheets = run_sheets rule c x.phase x.hall (m.rules.outstanding x.method) k.sound;
       under_way = history_ordered m ml rule x history;
     }

@@ -141,7 +141,7 @@ module _ (r : Rule) (c : Cut) (g : Progress) (p : Phase) (h : Hall) (out : ℕ) 
         late_takes = λ t. let e : (get_or (set (map cleared_station h.stations) s st) t fresh).unreported ≡ 0 = ap (λ f. f t) (field_kept (λ t. t.unreported) (map cleared_station h.stations) s st ls refl) ∙ ap (λ u. u.unreported) (mapped h.stations t) in omega arith;
       }
 
-module _ (m : Model) (rule : Rule) (c : Cut) (g : Progress) (x : House m.State) (so : Sound rule c x.phase x.hall (m.outstanding x.method)) (k : Kept g x.phase x.hall) where
+module _ (m : Model) (rule : Rule) (c : Cut) (g : Progress) (x : House m.State) (so : Sound rule c x.phase x.hall (m.rules.outstanding x.method)) (k : Kept g x.phase x.hall) where
   abbrev p : Phase
   p = x.phase
 
@@ -149,7 +149,7 @@ module _ (m : Model) (rule : Rule) (c : Cut) (g : Progress) (x : House m.State) 
   h = x.hall
 
   abbrev out : ℕ
-  out = m.outstanding x.method
+  out = m.rules.outstanding x.method
 
   gathered_kept : (s : ℕ) → ltb s x.hall.n ≡ true → Kept (progress_after c g (gather s)) (after_gather m x s).phase (after_gather m x s).hall
   gathered_kept s lt = go (eqb s 0)
@@ -158,7 +158,7 @@ module _ (m : Model) (rule : Rule) (c : Cut) (g : Progress) (x : House m.State) 
       go true = gather_kept rule c g p h out so k s _ lt
       go false = gather_kept rule c g p h out so k s x.hall.messages lt
 
-  pub accepted_kept : (call : Call) → AllYes (house_questions rule x.phase x.hall (m.outstanding x.method) call) → Kept (progress_after c g call) (after m rule x call).phase (after m rule x call).hall
+  pub accepted_kept : (call : Call) → AllYes (house_questions rule x.phase x.hall (m.rules.outstanding x.method) call) → Kept (progress_after c g call) (after m rule x call).phase (after m rule x call).hall
   accepted_kept (enter s a b r) y = record { opened = k.opened; gathered = k.gathered; late_takes = k.late_takes }
   accepted_kept (post s to line amount) y =
       let q = and_parts _ _ y.0 in

@@ -45,9 +45,9 @@ low_house rule p h out (file told text) = (omega arith, (omega arith, tt))
 
 pub method_refuses_nothing : (m : Model) → models.Lawful m → MethodRefusesNothing m
 method_refuses_nothing m ml rule x history call = (
-  λ e. no_first (method_questions m x call) (method_yes m rule (cut_of (past m rule x history)) x (history_holds m ml rule x history) call (all_yes_lem (house_questions rule x.phase x.hall (m.outstanding x.method) call) e)),
+  λ e. no_first (method_questions m x call) (method_yes m rule (cut_of (past m rule x history)) x (history_holds m ml rule x history) call (all_yes_lem (house_questions rule x.phase x.hall (m.rules.outstanding x.method) call) e)),
   λ code e.
       let k = history_holds m ml rule x history in
       let o = outcome_refused (first_no (questions m rule x call)) (after m rule x call) (reply m x call) code e in
-      low_first (house_questions rule x.phase x.hall (m.outstanding x.method) call) code (low_house rule x.phase x.hall (m.outstanding x.method) call) (sym (house_decides m rule (cut_of (past m rule x history)) x k call) ∙ o),
+      low_first (house_questions rule x.phase x.hall (m.rules.outstanding x.method) call) code (low_house rule x.phase x.hall (m.rules.outstanding x.method) call) (sym (house_decides m rule (cut_of (past m rule x history)) x k call) ∙ o),
 )

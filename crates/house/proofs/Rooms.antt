@@ -18,7 +18,7 @@ use Rattle.house.specs.Reporting.{reported_station}
 use Rattle.house.specs.State.{Hall, House, fresh, at, is_counting}
 use Rattle.house.specs.Taking.{is_late, turns_receiver, take_questions, took_station, late_station, arrives, arrives_late, arrived, taken_hall, under_way}
 use Rattle.house.specs.Turning.{turned_station, turns}
-use Rattle.house.proofs.Accepted.{begun_left, heard_left}
+use Rattle.house.proofs.Accepted.{begun_left, arrived_left}
 use Rattle.common.proofs.AllYes.{AllYes}
 use Rattle.house.proofs.Halls.{field_put, find_coloured_lem}
 use Rattle.house.proofs.Holding.{Room, begun?, Served, Holds, served_on, length-less, root_kept}
@@ -53,7 +53,7 @@ room_gather m x s k = go (eqb s 0)
     go true = record { tray_cells_lem = k.tray_cells_lem; late_cells_lem = k.late_cells_lem; tray = k.tray; late = k.late }
     go false = record { tray_cells_lem = k.tray_cells_lem; late_cells_lem = k.late_cells_lem; tray = k.tray; late = k.late }
 
-pub accepted_room : (m : Model) (rule : Rule) (x : House m.State) (call : Call) → AllYes (house_questions rule x.phase x.hall (m.outstanding x.method) call) → Room x.hall → Room (after m rule x call).hall
+pub accepted_room : (m : Model) (rule : Rule) (x : House m.State) (call : Call) → AllYes (house_questions rule x.phase x.hall (m.rules.outstanding x.method) call) → Room x.hall → Room (after m rule x call).hall
 accepted_room m rule x (enter s a b r) y k = record { tray_cells_lem = k.tray_cells_lem; late_cells_lem = k.late_cells_lem; tray = k.tray; late = k.late }
 accepted_room m rule x (post s to line amount) y k =
     let free = ltb-true (length x.hall.tray) x.hall.tray_cells y.1.1.1.1.0 in
@@ -104,7 +104,7 @@ module _ (m : Model) (ml : models.Lawful m) (rule : Rule) (c : Cut) (x : House m
       still (arrived x.phase x.hall y) e.0 e.1
 
   -- outside a count, and in a count whose root has not gathered, the method is idle
-  idle_served : (p' : Phase) (h' : Hall) → begun? p' h' ≡ false → m.outstanding x.method ≡ 0 → Served m p' h' x.method
+  idle_served : (p' : Phase) (h' : Hall) → begun? p' h' ≡ false → m.rules.outstanding x.method ≡ 0 → Served m p' h' x.method
   idle_served p' h' e o = record { valid = k.served.valid; idle = λ _. o; counted = λ i. absurd (true≢false (sym i ∙ e)) }
 
   gather_served : (s : ℕ) → AllYes (gather_questions x.phase x.hall s) → AllYes (root_questions m x s) → Served m (after_gather m x s).phase (after_gather m x s).hall (after_gather m x s).method
@@ -120,7 +120,7 @@ module _ (m : Model) (ml : models.Lawful m) (rule : Rule) (c : Cut) (x : House m
           record { valid = l.2; idle = λ i. absurd (true≢false (sym (and_from (is_counting x.phase) _ y.1.0 g) ∙ i)); counted = λ _. l.1 }
       go false e = still (gathered_hall x.hall s) (ap (λ f. f 0) g_is ∙ put_other (λ t. (at x.hall t).gathered) s 0 true (λ w. eqb-false s 0 e (sym w))) refl
 
-  pub accepted_served : (call : Call) → AllYes (house_questions rule x.phase x.hall (m.outstanding x.method) call) → AllYes (method_questions m x call) → Served m (after m rule x call).phase (after m rule x call).hall (after m rule x call).method
+  pub accepted_served : (call : Call) → AllYes (house_questions rule x.phase x.hall (m.rules.outstanding x.method) call) → AllYes (method_questions m x call) → Served m (after m rule x call).phase (after m rule x call).hall (after m rule x call).method
   accepted_served (enter s a b r) y z = still (entered_hall rule h s a b r) refl refl
   accepted_served (post s to line amount) y z =
       let q = and_parts _ _ y.0 in
@@ -133,10 +133,10 @@ module _ (m : Model) (ml : models.Lawful m) (rule : Rule) (c : Cut) (x : House m
   accepted_served (turn s) y z = still (turns h s) (turns_root h s (below s y.0)) refl
   accepted_served (gather s) y z = gather_served s y z
   accepted_served (report s) y z =
-      let l = heard_left m ml rule c x k s z in
+      let l = arrived_left m ml rule c x k s z in
       let g : (get_or (set h.stations s (reported_station (at h s))) 0 fresh).gathered ≡ true = root_kept h s (reported_station (at h s)) (below s y.0) refl ∙ y.1.1.0 in
       record { valid = l.2; idle = λ i. absurd (true≢false (sym (and_from (is_counting p) _ y.1.0 g) ∙ i)); counted = λ _. l.1 ∙ k.served.counted (and_from (is_counting p) _ y.1.0 y.1.1.0) }
-  accepted_served close y z = idle_served Closed h refl (eqb-true (m.outstanding x.method) 0 y.1.1.0)
+  accepted_served close y z = idle_served Closed h refl (eqb-true (m.rules.outstanding x.method) 0 y.1.1.0)
   accepted_served (file told text) y z =
       let q = and_parts _ _ y.0 in
       idle_served Ready h refl (k.served.idle (ap (λ q. is_counting q && (at h 0).gathered) (is_closed_lem p q.0)))

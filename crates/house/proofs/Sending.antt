@@ -26,10 +26,10 @@ taken_sent p h (Some x) = go (is_late p h x) (turns_receiver p h x)
     go false false = refl
 
 module _ (m : Model) (rule : Rule) where
-  gathered_sent : (x : House m.State) (s : ℕ) → (after_gather m x s).hall.messages ≡ cond (eqb s 0) (x.hall.messages + m.begin_sent x.method x.hall.n (nat_abs (sum_at x.hall s))) x.hall.messages
+  gathered_sent : (x : House m.State) (s : ℕ) → (after_gather m x s).hall.messages ≡ cond (eqb s 0) (x.hall.messages + m.rules.begin_sent x.method x.hall.n (nat_abs (sum_at x.hall s))) x.hall.messages
   gathered_sent x s = go (eqb s 0)
     where
-      go : (b : Bool) → (cond b (root_gathers m x s) (with_hall x (gathered_hall x.hall s))).hall.messages ≡ cond b (x.hall.messages + m.begin_sent x.method x.hall.n (nat_abs (sum_at x.hall s))) x.hall.messages
+      go : (b : Bool) → (cond b (root_gathers m x s) (with_hall x (gathered_hall x.hall s))).hall.messages ≡ cond b (x.hall.messages + m.rules.begin_sent x.method x.hall.n (nat_abs (sum_at x.hall s))) x.hall.messages
       go true = refl
       go false = refl
 

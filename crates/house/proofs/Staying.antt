@@ -26,7 +26,7 @@ taken_stays h p (Some x) nc =
     (ap (λ (z : Hall). z.recorded) way, ap (λ (z : Hall). z.late) way)
 
 module _ (m : Model) (rule : Rule) where
-  accepted_stays : (x : House m.State) (call : Call) → is_counting x.phase ≡ false → NotOpen call → AllYes (house_questions rule x.phase x.hall (m.outstanding x.method) call) → Stays x (after m rule x call) × (NotFile call → (after m rule x call).phase ≡ x.phase)
+  accepted_stays : (x : House m.State) (call : Call) → is_counting x.phase ≡ false → NotOpen call → AllYes (house_questions rule x.phase x.hall (m.rules.outstanding x.method) call) → Stays x (after m rule x call) × (NotFile call → (after m rule x call).phase ≡ x.phase)
   accepted_stays x (enter s a b r) e w y = (stays x (after m rule x (enter s a b r)) e refl refl, λ _. refl)
   accepted_stays x (post s to line amount) e w y = (stays x (after m rule x (post s to line amount)) e refl refl, λ _. refl)
   accepted_stays x (take a b) e w y = let t = taken_stays x.hall x.phase (under_way x.hall a b) e in (stays x (after m rule x (take a b)) e t.0 t.1, λ _. refl)
@@ -43,7 +43,7 @@ module _ (m : Model) (rule : Rule) where
     where
       go : (o : Option (ℕ × ℕ × ℕ)) → first_no (questions m rule x call) ≡ o → AllByRecursion NotOpen (only_done (outcome o (after m rule x call) (reply m x call)) call (accepted m rule (next x (outcome o (after m rule x call) (reply m x call))) calls)) → ((x' : House m.State) → is_counting x'.phase ≡ false → AllByRecursion NotOpen (accepted m rule x' calls) → Stays x' (run m rule x' calls) × (AllByRecursion NotFile (accepted m rule x' calls) → (run m rule x' calls).phase ≡ x'.phase)) → Stays x (run m rule (next x (outcome o (after m rule x call) (reply m x call))) calls) × (AllByRecursion NotFile (only_done (outcome o (after m rule x call) (reply m x call)) call (accepted m rule (next x (outcome o (after m rule x call) (reply m x call))) calls)) → (run m rule (next x (outcome o (after m rule x call) (reply m x call))) calls).phase ≡ x.phase)
       go None q w ih =
-          let y = yes_parts (house_questions rule x.phase x.hall (m.outstanding x.method) call) (method_questions m x call) (all_yes_lem (questions m rule x call) q) in
+          let y = yes_parts (house_questions rule x.phase x.hall (m.rules.outstanding x.method) call) (method_questions m x call) (all_yes_lem (questions m rule x call) q) in
           let one = accepted_stays x call e w.0 y.0 in
           let all = ih (after m rule x call) one.0.shut w.1 in
           (stays x (run m rule (after m rule x call) calls) all.0.shut (all.0.recorded ∙ one.0.recorded) (all.0.late ∙ one.0.late), λ f. all.1 f.1 ∙ one.1 f.0)

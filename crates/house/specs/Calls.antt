@@ -13,7 +13,7 @@ use Rattle.house.specs.Taking.{take_questions, taken_hall, under_way}
 use Rattle.house.specs.Opening.{open_questions, opened_hall}
 use Rattle.house.specs.Turning.{turn_questions, turns}
 use Rattle.house.specs.Gathering.{gather_questions, root_questions, sum_at, after_gather}
-use Rattle.house.specs.Reporting.{report_questions, heard_questions, after_report}
+use Rattle.house.specs.Reporting.{report_questions, arrived_questions, after_report}
 use Rattle.house.specs.Closing.{close_questions}
 use Rattle.house.specs.Filing.{file_questions, text_of, written_over}
 
@@ -57,12 +57,12 @@ method_questions m x (take a b) = []
 method_questions m x (open' s) = []
 method_questions m x (turn s) = []
 method_questions m x (gather s) = root_questions m x s
-method_questions m x (report s) = heard_questions m x s
+method_questions m x (report s) = arrived_questions m x s
 method_questions m x close = []
 method_questions m x (file told text) = []
 
 abbrev pub questions : (m : Model) → Rule → House m.State → Call → List (Question Code)
-questions m rule x call = house_questions rule x.phase x.hall (m.outstanding x.method) call ++ method_questions m x call
+questions m rule x call = house_questions rule x.phase x.hall (m.rules.outstanding x.method) call ++ method_questions m x call
 
 -- what an accepted call leaves
 abbrev pub after : (m : Model) → Rule → House m.State → Call → House m.State
@@ -84,6 +84,6 @@ reply m x (take a b) = nothing
 reply m x (open' s) = nothing
 reply m x (turn s) = nothing
 reply m x (gather s) = sum (sum_at x.hall s)
-reply m x (report s) = sent (m.heard_sent x.method s)
+reply m x (report s) = sent (m.rules.arrived_sent x.method s)
 reply m x close = receipt (length x.hall.late) x.hall.messages
 reply m x (file told text) = filed (length (text_of x.hall)) (written_over (text_of x.hall) text)

@@ -38,15 +38,15 @@ gathered_hall h s = with_station h s (gathered_station (at h s))
 
 -- at the root the method is asked too
 abbrev pub root_questions : (m : Model) → House m.State → (s : ℕ) → List (Question Code)
-root_questions m x s = cond (s == 0) (begin_questions (m.outstanding x.method) x.hall.n (sum_at x.hall s)) []
+root_questions m x s = cond (s == 0) (begin_questions (m.rules.outstanding x.method) x.hall.n (sum_at x.hall s)) []
 
 -- it begins with all stations and the sum, and what it sends is counted
 abbrev pub root_gathers : (m : Model) → House m.State → (s : ℕ) → House m.State
 root_gathers m x s =
     record {
       phase = x.phase;
-      hall = more_messages (gathered_hall x.hall s) (m.begin_sent x.method x.hall.n (unsigned_abs (sum_at x.hall s)));
-      method = m.begun x.method x.hall.n (unsigned_abs (sum_at x.hall s));
+      hall = more_messages (gathered_hall x.hall s) (m.rules.begin_sent x.method x.hall.n (unsigned_abs (sum_at x.hall s)));
+      method = m.rules.begun x.method x.hall.n (unsigned_abs (sum_at x.hall s));
     }
 
 abbrev pub after_gather : (m : Model) → House m.State → (s : ℕ) → House m.State

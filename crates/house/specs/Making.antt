@@ -1,7 +1,7 @@
 -- make: what it asks, and the house that it gives.
 use Rattle.common.specs.Limits.{most_stations, most_cells}
 use Rattle.common.specs.Ranges.{within}
-use Rattle.std.specs.Prelude.{ℕ, ◌&&◌, List, [], ◌∷◌, replicate, ◌==◌, nat_le}
+use Rattle.std.specs.Prelude.{ℕ, ◌&&◌, List, [], ◌∷◌, replicate, ◌==◌}
 use Rattle.sections.specs.Rule.{blank_sheet}
 use Rattle.common.specs.Questions.{Question, Code, ask, number}
 use Rattle.house.specs.declared.phase.Phase.TheVariants.{Ready}

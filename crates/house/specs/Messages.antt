@@ -32,7 +32,7 @@ messages_after m x before (post s to line amount) answer = before
 messages_after m x before (take a b) answer = before
 messages_after m x before (open' s) answer = 0
 messages_after m x before (turn s) answer = before
-messages_after m x before (gather s) answer = cond (s == 0) (before + m.begin_sent x.method x.hall.n (gathered_told answer)) before
+messages_after m x before (gather s) answer = cond (s == 0) (before + m.rules.begin_sent x.method x.hall.n (gathered_told answer)) before
 messages_after m x before (report s) answer = before + sent_told answer
 messages_after m x before close answer = before
 messages_after m x before (file told text) answer = before

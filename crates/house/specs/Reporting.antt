@@ -23,10 +23,10 @@ abbrev pub reported_hall : Hall → (s : ℕ) → Hall
 reported_hall h s = with_station h s (reported_station (at h s))
 
 -- the method is asked too
-abbrev pub heard_questions : (m : Model) → House m.State → (s : ℕ) → List (Question Code)
-heard_questions m x s = arrival_questions (m.stations x.method) (m.outstanding x.method) s
+abbrev pub arrived_questions : (m : Model) → House m.State → (s : ℕ) → List (Question Code)
+arrived_questions m x s = arrival_questions (m.rules.stations x.method) (m.rules.outstanding x.method) s
 
 -- what the method sends is counted
 abbrev pub after_report : (m : Model) → House m.State → (s : ℕ) → House m.State
 after_report m x s =
-    record { phase = x.phase; hall = more_messages (reported_hall x.hall s) (m.heard_sent x.method s); method = m.heard x.method s }
+    record { phase = x.phase; hall = more_messages (reported_hall x.hall s) (m.rules.arrived_sent x.method s); method = m.rules.arrived x.method s }

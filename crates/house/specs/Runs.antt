@@ -19,7 +19,7 @@ outcome (Some code) x answer = refused code
 
 abbrev pub make : (m : Model) → (n sheets recorded tray_cells late_cells : ℕ) → m.State → Outcome m.State
 make m n sheets recorded tray_cells late_cells q =
-    outcome (first_no (make_questions n sheets recorded tray_cells late_cells (m.outstanding q))) (made_house n tray_cells late_cells q) nothing
+    outcome (first_no (make_questions n sheets recorded tray_cells late_cells (m.rules.outstanding q))) (made_house n tray_cells late_cells q) nothing
 
 abbrev pub step : (m : Model) → Rule → House m.State → Call → Outcome m.State
 step m rule x call = outcome (first_no (questions m rule x call)) (after m rule x call) (reply m x call)

@@ -84,7 +84,7 @@ CloseIsExact m = (rule : Rule) (x : House m.State) → ClosesExactly m rule x
 abbrev pub MethodRefusesNothing : Model → Type 0
 MethodRefusesNothing m =
     (rule : Rule) (x : House m.State) → History m rule x → (call : Call) →
-    (first_no (house_questions rule x.phase x.hall (m.outstanding x.method) call) ≡ None → first_no (method_questions m x call) ≡ None)
+    (first_no (house_questions rule x.phase x.hall (m.rules.outstanding x.method) call) ≡ None → first_no (method_questions m x call) ≡ None)
     × ((code : ℕ × ℕ × ℕ) → step m rule x call ≡ refused code → code.0 < 23)
 
 -- Alike: an answer with its control messages set aside

@@ -13,7 +13,7 @@ use Rattle.house.specs.PlainHouse.{enters, posts, takes}
 use Rattle.house.specs.Cut.{cut_of}
 
 abbrev pub first_house : House tree_model.State
-first_house = made_house 3 64 64 tree_model.fresh
+first_house = made_house 3 64 64 tree_model.rules.fresh
 
 -- results 2 and 1 are a win of the first line and a draw; the text handed in at the end has 80 bytes
 abbrev pub worked_calls : List Call
@@ -108,7 +108,7 @@ second_told =
     ∷ []
 
 pub record WorkedHistory : Type 0 where
-  pub made : make tree_model 3 3 3 64 64 tree_model.fresh ≡ done first_house nothing
+  pub made : make tree_model 3 3 3 64 64 tree_model.rules.fresh ≡ done first_house nothing
   pub told : all_told tree_model chess first_house worked_calls ≡ worked_told
   -- the half point of line 3 at station 1 is all that was recorded; the rest was under way
   pub recorded : (run tree_model chess first_house worked_calls).hall.recorded ≡ blank_sheet ∷ slice_set blank_sheet 3 (pos 1) ∷ blank_sheet ∷ []

@@ -33,14 +33,14 @@ tree_lawful =
       fresh_valid = record { small = omega arith; few = omega arith; rooted = λ some. absurd (omega arith) };
       fresh_stations = refl;
       fresh_outstanding = refl;
-      begun_valid = λ q n w _ _ p small few. round_sound n w p small few;
-      begun_stations = λ q n w _ _ p _ _. dealt_long n w;
-      begun_outstanding = λ q n w _ _ p _ _. dealt_total n w p;
-      begun_few = λ q n w _ _ p small _. cond_both (w == 0) 0 (n - 1) (λ x. x ≤ most_messages) (λ _. omega arith) (λ _. omega arith);
-      heard_valid = λ q i s p some. arrival_sound q i s p some;
-      heard_stations = λ q i s p some. (arrival_keeps q.limit q.tokens i s.small p (s.rooted some)).long;
-      heard_outstanding = λ q i s p some. (arrival_keeps q.limit q.tokens i s.small p (s.rooted some)).total;
-      heard_few = λ q i s p some. (arrival_keeps q.limit q.tokens i s.small p (s.rooted some)).few;
+      begun_valid = λ q n w can. round_sound n w can.some_stations can.few_stations can.few_arrivals;
+      begun_stations = λ q n w can. dealt_long n w;
+      begun_outstanding = λ q n w can. dealt_total n w can.some_stations;
+      begun_few = λ q n w can. cond_both (w == 0) 0 (n - 1) (λ x. x ≤ most_messages) (λ _. omega arith) (λ _. omega (arith, can.few_stations));
+      arrived_valid = λ q i can. arrival_sound q i can.valid can.counted can.awaited;
+      arrived_stations = λ q i can. (arrival_keeps q.limit q.tokens i can.valid.small can.counted (can.valid.rooted can.awaited)).long;
+      arrived_outstanding = λ q i can. (arrival_keeps q.limit q.tokens i can.valid.small can.counted (can.valid.rooted can.awaited)).total;
+      arrived_few = λ q i can. (arrival_keeps q.limit q.tokens i can.valid.small can.counted (can.valid.rooted can.awaited)).few;
     }
 
 -- ## The root

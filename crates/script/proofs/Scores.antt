@@ -1,5 +1,5 @@
 -- The scores of a sheet, a line at a time.
-use Rattle.std.proofs.Common.{◌≡◌, ℕ, ◌+◌, List, [], ◌++◌, ℤ, pos, eqb, false, unsigned_abs, append-nil, arith, w32, of_z, to_z, SFits}
+use Rattle.std.proofs.Common.{◌≡◌, ℕ, ◌+◌, List, ◌++◌, ℤ, pos, eqb, false, unsigned_abs, append-nil, arith, w32, of_z, to_z, SFits}
 use Rattle.std.proofs.lemmas.Bool.Decides.{nat_tests}
 use Rattle.std.proofs.lemmas.Int.{ints, to_z-of_z}
 use Rattle.common.proofs.ScoreLines.{scores_none, scores_more}

@@ -2,7 +2,7 @@
 use Rattle.std.proofs.Common.{◌≡◌, ℕ, Bool, true, false, List, ℤ, ◌+ℤ◌, Some, None, refl}
 use Rattle.common.specs.Questions.{first_no}
 use Rattle.sections.specs.Rule.{good_lines, figure_at}
-use Rattle.sections.specs.Judged.{figure_questions, is_figure, pair_entry}
+use Rattle.sections.specs.Pairs.{figure_questions, is_figure, pair_entry}
 
 -- where the lines are good and the first new figure is in the range, the second decides
 pub pair_entry-second : (f : List ℤ) (a b : ℕ) (x y : ℤ) → good_lines a b ≡ true → first_no (figure_questions (figure_at f a +ℤ x) a) ≡ None → first_no (pair_entry f a b (Some (x, y))) ≡ first_no (figure_questions (figure_at f b +ℤ y) b)

@@ -5,7 +5,7 @@ use Rattle.std.proofs.lemmas.Int.{ints}
 use Rattle.std.proofs.lemmas.Bool.Decides.{nat_tests}
 use Rattle.std.proofs.lemmas.List.{length-set, get_or-set_same, get_or-set_other, ext_get_or}
 use Rattle.sections.specs.Rule.{gained_from, entered, figure_at, good_lines}
-use Rattle.sections.specs.Judged.{pair_gain}
+use Rattle.sections.specs.Pairs.{pair_gain}
 
 length-gained : (k : ℕ) (gain : ℕ → ℤ) (f : List ℤ) → length (gained_from k gain f) ≡ length f
 length-gained k gain [] = refl

@@ -3,7 +3,7 @@ use Rattle.std.proofs.Common.{◌≡◌, ℕ, zero, suc, true, List, [], ◌∷�
 use Rattle.common.specs.Limits.{largest_figure}
 use Rattle.std.proofs.lemmas.Int.{ints}
 use Rattle.sections.specs.Rule.{Within}
-use Rattle.sections.specs.Judged.{is_figure}
+use Rattle.sections.specs.Pairs.{is_figure}
 
 -- a figure in the range may stand in the place of another
 pub within_set : (n : ℕ) (f : List ℤ) (i : ℕ) (z : ℤ) → neg_ℤ (pos n) ≤ℤ z → z ≤ℤ pos n → Within n f → Within n (set f i z)

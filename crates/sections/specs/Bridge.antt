@@ -4,7 +4,7 @@ use Rattle.common.specs.Ranges.{between, up_to}
 use Rattle.common.specs.Limits.{largest_amount, line_count}
 use Rattle.common.specs.Questions.{ask}
 use Rattle.sections.specs.Rule.{Rule, SectionQuestions, good_lines, figure_at}
-use Rattle.sections.specs.Judged.{is_figure, pair_gains}
+use Rattle.sections.specs.Pairs.{is_figure, pair_gains}
 
 -- a result is the difference in points at a board: a multiple of ten from -15,000 to 15,000
 abbrev pub is_difference : ℤ → Bool

@@ -2,7 +2,7 @@
 use Rattle.std.proofs.Common.{◌≡◌, ℕ, Bool, true, false, List, ℤ, refl, arith}
 use Rattle.std.proofs.lemmas.Int.{ints}
 use Rattle.common.specs.Questions.{first_no}
-use Rattle.sections.specs.Judged.{pair_entry}
+use Rattle.sections.specs.Pairs.{pair_entry}
 use Rattle.sections.specs.Scored.{Plays, AmountsAreSmall}
 use Rattle.sections.specs.Bridge.{bridge, bridge_entry, is_amount, is_difference, both_imps}
 

@@ -4,7 +4,7 @@ use Rattle.common.specs.Ranges.{between}
 use Rattle.common.specs.Limits.{largest_amount, largest_figure, line_count}
 use Rattle.common.specs.Questions.{ask}
 use Rattle.sections.specs.Rule.{Rule, SectionQuestions, good_lines, figure_at}
-use Rattle.sections.specs.Judged.{pair_gains}
+use Rattle.sections.specs.Pairs.{pair_gains}
 
 -- a result is a code from 0 to 3: line b won, a draw, line a won, nobody scored
 abbrev pub is_result : ℤ → Bool

@@ -5,7 +5,7 @@ use lib.Signed.{le_z}
 use Rattle.std.proofs.lemmas.Int.{ints}
 use Rattle.sections.specs.Rule.{figure_at, Within}
 use Rattle.common.specs.Questions.{first_no}
-use Rattle.sections.specs.Judged.{is_figure, pair_entry}
+use Rattle.sections.specs.Pairs.{is_figure, pair_entry}
 use Rattle.sections.specs.Scored.{Plays, AmountsAreSmall, sheet_debit, sheet_credit}
 use Rattle.sections.specs.Chess.{chess, chess_entry, chess_debit, chess_credit, is_amount, is_result, half_points}
 

@@ -1,7 +1,7 @@
 pub mod Rule
 pub mod Codes
 pub mod Lines
-pub mod Judged
+pub mod Pairs
 pub mod Scored
 pub mod Sheet
 pub mod Chess

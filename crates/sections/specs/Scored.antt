@@ -1,9 +1,9 @@
 -- How a sheet plays the rule of a kind of scoring.
-use Rattle.std.specs.Prelude.{◌≡◌, ℕ, Bool, true, List, [], ◌∷◌, ℤ, pos, ◌+ℤ◌, ◌-ℤ◌, neg_ℤ, ◌≤ℤ◌, Option, nat_lt}
+use Rattle.std.specs.Prelude.{◌≡◌, ℕ, Bool, true, List, [], ◌∷◌, ℤ, ◌+ℤ◌, ◌-ℤ◌, neg_ℤ, ◌≤ℤ◌, Option, nat_lt}
 use Rattle.common.specs.Limits.{line_count, largest_figure, largest_amount}
 use Rattle.common.specs.Questions.{ask, first_no}
 use Rattle.sections.specs.Rule.{Rule, SectionQuestions, Within, figure_at}
-use Rattle.sections.specs.Judged.{is_figure, pair_entry, pair_gains}
+use Rattle.sections.specs.Pairs.{is_figure, pair_entry, pair_gains}
 
 -- what a sheet asks of a debit: its line, its amount, a figure that covers it, and a new figure in the range
 abbrev pub sheet_debit : (is_amount : ℤ → Bool) (covers : ℤ → ℤ → Bool) → List ℤ → (line : ℕ) (amount : ℤ) → SectionQuestions

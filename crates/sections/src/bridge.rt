@@ -3,10 +3,10 @@ ghost use Rattle.sections.specs.Bridge.{bridge, both_imps, is_amount};
 ghost use Rattle.sections.specs.BridgePlays.{bridge_plays, bridge_amounts};
 ghost use Rattle.std.proofs.Common.{rules};
 
-use common::limits::LARGEST_AMOUNT;
 use crate::imps::both_imps;
 use crate::scoring::Scoring;
 use crate::sheet::Sheet;
+use common::limits::LARGEST_AMOUNT;
 
 // A sheet of IMPs.
 pub type Bridge = Sheet<BridgeScoring>;

@@ -3,10 +3,10 @@ ghost use Rattle.sections.specs.Chess.{chess, half_points, is_amount};
 ghost use Rattle.sections.specs.ChessPlays.{chess_plays, chess_amounts};
 ghost use Rattle.std.proofs.Common.{rules};
 
-use common::limits::LARGEST_AMOUNT;
 use crate::game::Game;
 use crate::scoring::Scoring;
 use crate::sheet::Sheet;
+use common::limits::LARGEST_AMOUNT;
 
 // A sheet of half points.
 pub type Chess = Sheet<ChessScoring>;

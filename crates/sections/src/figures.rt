@@ -4,12 +4,12 @@ ghost use Rattle.sections.specs.Rule.{Within, blank_sheet, figure_at, entered, c
 ghost use Rattle.sections.specs.Lines.{ReadsLine};
 ghost use Rattle.common.specs.Did.{Did};
 ghost use Rattle.sections.specs.Codes.{cause_and_line};
-ghost use Rattle.sections.specs.Judged.{figure_questions, pair_gains, pair_entry};
+ghost use Rattle.sections.specs.Pairs.{figure_questions, pair_gains, pair_entry};
 
-use common::limits::{LARGEST_FIGURE, LINES};
 use crate::fault::{Cause, Fault};
 use crate::line::Line;
 use crate::pair::Pair;
+use common::limits::{LARGEST_FIGURE, LINES};
 
 // The 32 figures of a sheet, each from -20,000 to 20,000.
 #[derive(Clone, Copy, Debug, PartialEq, Eq)]
@@ -23,7 +23,9 @@ impl Figures {
     pub(crate) fn zero() -> Figures
         ensures { result.values ≡ blank_sheet }
     {
-        Figures { values: [0; LINES as usize] }
+        Figures {
+            values: [0; LINES as usize],
+        }
     }
 
     pub(crate) fn at(&self, line: Line) -> i32

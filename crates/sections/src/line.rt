@@ -2,8 +2,8 @@ ghost use Rattle.std.specs.Prelude.{◌≡◌, ◌<◌};
 ghost use Rattle.common.specs.Limits.{line_count};
 ghost use Rattle.sections.specs.Lines.{ReadsLine};
 
-use common::limits::LINES;
 use crate::fault::{Cause, Fault};
+use common::limits::LINES;
 
 // A line of a sheet.
 #[derive(Clone, Copy)]

@@ -27,12 +27,12 @@ GivesImps difference imps =
 
 -- a method that has counted nothing begins with n stations and w arrivals
 abbrev pub begun : (m : Model) → (n w : ℕ) → m.State
-begun m n w = m.begun m.fresh n w
+begun m n w = m.rules.begun m.rules.fresh n w
 
 -- the messages of arrivals at these stations, one after another
 abbrev pub sent_at : (m : Model) → m.State → (stations : List ℕ) → List ℕ
 sent_at m q [] = []
-sent_at m q (s ∷ ss) = m.heard_sent q s ∷ sent_at m (m.heard q s) ss
+sent_at m q (s ∷ ss) = m.rules.arrived_sent q s ∷ sent_at m (m.rules.arrived q s) ss
 
 pub record WorkedCases : Type 0 where
   pub chess_19998_and_a_win_is_20000 : LeavesAtZero chess (line_zero_has (pos 19998)) (pos 2) (pos 20000)
@@ -44,4 +44,4 @@ pub record WorkedCases : Type 0 where
   pub tree_of_3_deals_5_as_2_2_1 : (begun tree_model 3 5).tokens ≡ 2 ∷ 2 ∷ 1 ∷ []
   pub then_arrivals_at_2_2_1_1_0_cost_0_4_0_12_8 : sent_at tree_model (begun tree_model 3 5) (2 ∷ 2 ∷ 1 ∷ 1 ∷ 0 ∷ []) ≡ 0 ∷ 4 ∷ 0 ∷ 12 ∷ 8 ∷ []
   pub tree_of_4_with_1_an_arrival_at_3_costs_13 : sent_at tree_model (begun tree_model 4 1) (3 ∷ []) ≡ 13 ∷ []
-  pub nothing_to_wait_for_sends_nothing : (n : ℕ) → 1 ≤ n → n ≤ most_stations → (tree_model.outstanding (begun tree_model n 0) ≡ 0) × (tree_model.begin_sent tree_model.fresh n 0 ≡ 0)
+  pub nothing_to_wait_for_sends_nothing : (n : ℕ) → 1 ≤ n → n ≤ most_stations → (tree_model.rules.outstanding (begun tree_model n 0) ≡ 0) × (tree_model.rules.begin_sent tree_model.rules.fresh n 0 ≡ 0)

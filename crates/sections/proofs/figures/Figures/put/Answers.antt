@@ -1,7 +1,7 @@
 use Rattle.std.proofs.Common.{◌≡◌, true, arith, w16, w64, to_z, of_z, rules}
 use Rattle.common.specs.Limits.{largest_figure}
 use Rattle.std.proofs.lemmas.Int.{ints}
-use Rattle.sections.specs.Judged.{is_figure}
+use Rattle.sections.specs.Pairs.{is_figure}
 use Rattle.sections.proofs.Ranges.{figure_low, figure_high, within_set}
 use Rattle.sections.proofs.figures.Figures.put.Goals as goal
 

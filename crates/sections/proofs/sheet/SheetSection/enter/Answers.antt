@@ -2,7 +2,7 @@ use Rattle.std.proofs.Common.{◌≡◌, w32, SFits}
 use Rattle.std.proofs.lemmas.Int.{to_z-of_z}
 use Rattle.common.proofs.SameRefusals.{did_as}
 use Rattle.sections.specs.Codes.{cause_and_line}
-use Rattle.sections.specs.Judged.{pair_entry, pair_gains}
+use Rattle.sections.specs.Pairs.{pair_entry, pair_gains}
 use Rattle.sections.specs.Rule.{entered}
 use Rattle.sections.specs.declared.figures.Figures.{Figures}
 use Rattle.sections.specs.declared.sheet.Sheet.{Sheet}

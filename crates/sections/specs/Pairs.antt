@@ -1,5 +1,5 @@
 -- What is asked of an entry that gives an amount to each of two lines.
-use Rattle.std.specs.Prelude.{ℕ, Bool, false, cond, ◌&&◌, List, [], ◌∷◌, ℤ, pos, ◌+ℤ◌, neg_ℤ, Some, None, Option, ◌==◌, int_le}
+use Rattle.std.specs.Prelude.{ℕ, Bool, false, cond, List, [], ◌∷◌, ℤ, pos, ◌+ℤ◌, Some, None, Option, ◌==◌}
 use Rattle.common.specs.Ranges.{up_to}
 use Rattle.common.specs.Limits.{largest_figure}
 use Rattle.common.specs.Questions.{ask}
