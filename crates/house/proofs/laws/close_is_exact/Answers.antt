@@ -1,5 +1,0 @@
-use Rattle.house.proofs.Exact.{close_is_exact}
-use Rattle.house.proofs.laws.close_is_exact.Goals as goal
-
-pub returns : goal.returns
-returns g c = close_is_exact g.M.Method.model g.met.M.Method.lawful

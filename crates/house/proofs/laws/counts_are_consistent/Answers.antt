@@ -1,5 +1,0 @@
-use Rattle.house.proofs.Histories.{counts_are_consistent}
-use Rattle.house.proofs.laws.counts_are_consistent.Goals as goal
-
-pub returns : goal.returns
-returns g c = counts_are_consistent g.M.Method.model g.met.M.Method.lawful

@@ -1,5 +1,0 @@
-use Rattle.house.proofs.Plainly.{house_is_its_plain_run}
-use Rattle.house.proofs.laws.house_is_its_plain_run.Goals as goal
-
-pub returns : goal.returns
-returns g c = house_is_its_plain_run g.M.Method.model g.met.M.Method.lawful

@@ -1,5 +1,0 @@
-use Rattle.house.proofs.Refusals.{method_refuses_nothing}
-use Rattle.house.proofs.laws.method_refuses_nothing.Goals as goal
-
-pub returns : goal.returns
-returns g c = method_refuses_nothing g.M.Method.model g.met.M.Method.lawful

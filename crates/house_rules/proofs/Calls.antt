@@ -1,0 +1,10 @@
+pub mod Enter
+pub mod Post
+pub mod Turn
+pub mod Arrival
+pub mod Take
+pub mod OpenGatherReportFile
+pub mod Make
+pub mod Outcome
+pub mod EveryCall
+pub mod Cells

@@ -1,0 +1,12 @@
+pub mod Phases
+pub mod PlainHouse
+pub mod PlainSteps
+pub mod Halls
+pub mod Names
+pub mod Colours
+pub mod Cut
+pub mod Deficits
+pub mod GatheredSum
+pub mod Sound
+pub mod Parts
+pub mod WholeHouse

@@ -1,0 +1,4 @@
+pub mod Invariant
+pub mod Lists
+pub mod Calls
+pub mod Statements

@@ -1,0 +1,12 @@
+pub mod CloseIsACut
+pub mod MethodIsAskedRightly
+pub mod CountsAreConsistent
+pub mod MethodRefusesNothing
+pub mod HouseIsItsPlainRun
+pub mod Progress
+pub mod CloseIsExact
+pub mod MethodsAgree
+pub mod CountsStay
+pub mod CloseTellsTheMessages
+pub mod MessagesAreFew
+pub mod WorkedHistory

@@ -1,0 +1,13 @@
+pub mod Questions
+pub mod Make
+pub mod Enter
+pub mod Post
+pub mod Turn
+pub mod Take
+pub mod Open
+pub mod Gather
+pub mod Report
+pub mod Close
+pub mod CountText
+pub mod File
+pub mod EveryCall

@@ -1,0 +1,4 @@
+pub mod Colours
+pub mod Names
+pub mod House
+pub mod Changes

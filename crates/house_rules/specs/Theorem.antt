@@ -1,0 +1,7 @@
+pub mod Histories
+pub mod PlainHouse
+pub mod Cut
+pub mod Progress
+pub mod Statements
+pub mod Messages
+pub mod WorkedHistory

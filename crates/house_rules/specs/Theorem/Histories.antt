@@ -1,0 +1,80 @@
+-- make, one step, and histories: lists of calls with refusals left in.
+use Rattle.std.specs.Prelude.{◌≡◌, ℕ, Bool, true, false, List, [], ◌∷◌, Some, None, Option}
+use Rattle.sections.specs.Rule.{Rule}
+use Rattle.common.specs.Questions.{first_no}
+use Rattle.methods.specs.Model.{Model}
+use Rattle.house_rules.specs.State.House.{House}
+use Rattle.house_rules.specs.Calls.Make.{make_questions, made_house}
+use Rattle.house_rules.specs.Calls.EveryCall.{Call, Answer, nothing, questions, after, reply}
+
+-- refused with number, cause and line; or the house after the call, and its answer
+pub data Outcome (Q : Type 0) : Type 0 where
+  refused : ℕ × ℕ × ℕ → Outcome Q
+  done : House Q → Answer → Outcome Q
+
+-- the first no refuses
+abbrev pub outcome : {Q : Type 0} → Option (ℕ × ℕ × ℕ) → House Q → Answer → Outcome Q
+outcome None x answer = done x answer
+outcome (Some code) x answer = refused code
+
+abbrev pub make : (m : Model) → (n sheets recorded tray_cells late_cells : ℕ) → m.State → Outcome m.State
+make m n sheets recorded tray_cells late_cells q =
+    outcome (first_no (make_questions n sheets recorded tray_cells late_cells (m.rules.outstanding q))) (made_house n tray_cells late_cells q) nothing
+
+abbrev pub step : (m : Model) → Rule → House m.State → Call → Outcome m.State
+step m rule x call = outcome (first_no (questions m rule x call)) (after m rule x call) (reply m x call)
+
+-- a refusal alters nothing
+abbrev pub next : {Q : Type 0} → House Q → Outcome Q → House Q
+next x (refused code) = x
+next x (done y answer) = y
+
+-- the house after a list of calls
+abbrev pub run : (m : Model) → Rule → House m.State → List Call → House m.State
+run m rule x [] = x
+run m rule x (call ∷ calls) = run m rule (next x (step m rule x call)) calls
+
+-- what a caller is told
+pub data Told : Type 0 where
+  told_no : ℕ × ℕ × ℕ → Told
+  told_ok : Answer → Told
+
+abbrev pub told_of : {Q : Type 0} → Outcome Q → Told
+told_of (refused code) = told_no code
+told_of (done x answer) = told_ok answer
+
+-- what the callers are told, call by call
+abbrev pub all_told : (m : Model) → Rule → House m.State → List Call → List Told
+all_told m rule x [] = []
+all_told m rule x (call ∷ calls) = told_of (step m rule x call) ∷ all_told m rule (next x (step m rule x call)) calls
+
+-- the accepted calls among them
+abbrev pub only_done : {Q : Type 0} → Outcome Q → Call → List Call → List Call
+only_done (refused code) call calls = calls
+only_done (done x answer) call calls = call ∷ calls
+
+abbrev pub accepted : (m : Model) → Rule → House m.State → List Call → List Call
+accepted m rule x [] = []
+accepted m rule x (call ∷ calls) = only_done (step m rule x call) call (accepted m rule (next x (step m rule x call)) calls)
+
+abbrev pub is_done : {Q : Type 0} → Outcome Q → Bool
+is_done (refused code) = false
+is_done (done x answer) = true
+
+-- a house with its past: it was made, from a method in any state with nothing outstanding, and the calls led to it
+pub record History (m : Model) (rule : Rule) (x : House m.State) : Type 0 where
+  pub n : ℕ
+  pub sheets : ℕ
+  pub recorded : ℕ
+  pub tray_cells : ℕ
+  pub late_cells : ℕ
+  pub method : m.State
+  pub valid : m.Valid method
+  pub first : House m.State
+  pub made : make m n sheets recorded tray_cells late_cells method ≡ done first nothing
+  pub calls : List Call
+  pub leads : run m rule first calls ≡ x
+
+-- the accepted calls of that past
+abbrev pub past : (m : Model) (rule : Rule) (x : House m.State) → History m rule x → List Call
+past m rule x history = accepted m rule history.first history.calls

@@ -1,0 +1,58 @@
+// What is proved of every history of a house: each function's contract names one statement.
+ghost use Rattle.house_rules.specs.Theorem.Statements.{HouseIsItsPlainRun, CountsAreConsistent, ScoresAreGains, CloseIsExact, MethodRefusesNothing, MethodsAgree, CountsStay};
+ghost use Rattle.house_rules.specs.Theorem.Messages.{CloseTellsTheMessages, MessagesAreFew};
+ghost use Rattle.house_rules.specs.Theorem.WorkedHistory.{WorkedHistory};
+
+use methods::Method;
+
+// After every history, the plain run of all accepted enters, posts and takes refuses none and holds the sheets of the house
+// and, in their order, the slips of its tray.
+pub fn house_is_its_plain_run<M: Method>()
+    ensures { HouseIsItsPlainRun M.Method.model }
+{}
+
+// Every count that is closed is consistent: the plain house runs through the events before the cut and then the rest.
+pub fn counts_are_consistent<M: Method>()
+    ensures { CountsAreConsistent M.Method.model }
+{}
+
+// In every count that is closed, each line's score is what the entries before the turns gave it.
+pub fn scores_are_gains<M: Method>()
+    ensures { ScoresAreGains M.Method.model }
+{}
+
+// Close is granted exactly where the count is complete by the accepted calls.
+pub fn close_is_exact<M: Method>()
+    ensures { CloseIsExact M.Method.model }
+{}
+
+// Where the house's own questions are answered yes, so are its counting method's: no call is refused by the method.
+pub fn method_refuses_nothing<M: Method>()
+    ensures { MethodRefusesNothing M.Method.model }
+{}
+
+// Houses made alike but for the method, and given the same calls, tell the same and stay alike, messages aside.
+pub fn methods_agree<M: Method, K: Method>()
+    ensures { MethodsAgree M.Method.model K.Method.model }
+{}
+
+// Between a close and the next accepted open, record, late list and text stay as they are, whatever is called.
+pub fn counts_stay<M: Method>()
+    ensures { CountsStay M.Method.model }
+{}
+
+// A granted close tells the late slips of the count and the control messages that its begin and its reports sent.
+pub fn close_tells_the_messages<M: Method>()
+    ensures { CloseTellsTheMessages M.Method.model }
+{}
+
+// A granted close tells at most 1,000 messages for each late slip, and 1,000 more.
+pub fn messages_are_few<M: Method>()
+    ensures { MessagesAreFew M.Method.model }
+{}
+
+// A history of two counts, worked through: late slips, a take that turns its receiver, a close refused before the reports
+// are in, and a second count with the colours changed over.
+pub fn worked_history()
+    ensures { WorkedHistory }
+{}
