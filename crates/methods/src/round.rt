@@ -3,7 +3,7 @@ ghost use Rattle.common.specs.Limits.{most_stations, most_arrivals};
 ghost use Rattle.methods.specs.Deal.{new_round};
 ghost use Rattle.methods.specs.Split.{after_split, paid};
 ghost use Rattle.methods.specs.Swap.{exchange};
-ghost use Rattle.methods.specs.Tokens.{green, tokens_at};
+ghost use Rattle.methods.specs.Tokens.{FewStations, FewTokens, green, tokens_at};
 
 use crate::deal::{dealt_to, limit_of};
 use crate::split::split;
@@ -16,8 +16,8 @@ use common::limits::MOST_STATIONS;
 pub(crate) struct Round {
     limit: u16,
     tokens: ArrayVec<u16, MOST_STATIONS>,
-    ghost small: { length tokens.items ≤ most_stations },
-    ghost few: { sum tokens.items ≤ most_arrivals },
+    ghost small: { FewStations tokens.items },
+    ghost few: { FewTokens tokens.items },
 }
 
 impl Round {
