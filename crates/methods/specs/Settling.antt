@@ -3,7 +3,7 @@ use Rattle.std.specs.Prelude.{◌≡◌, ℕ, ◌+◌, ◌-◌, ◌*◌, ◌<◌
 use Rattle.std.proofs.Common.{◌∙◌, subst, ⊎_elim, arith}
 use Rattle.std.proofs.lemmas.Bool.{and_cases, cases_eq, cond_both, eqb-false, ltb-true, not-false}
 use Rattle.methods.specs.Tokens.{green, tokens_at}
-use Rattle.methods.specs.Swap.{Offers, turned}
+use Rattle.methods.specs.Swap.{Offers, turned_yellow}
 use Rattle.methods.specs.Arrival.{Outcome, reset, settled}
 use Rattle.methods.specs.Dealing.{dealt_green, dealt_long, dealt_total}
 use Rattle.methods.specs.Yellow.{Kept, turned_few, turned_keeps}
@@ -45,7 +45,7 @@ root_after limit ts i o k e root =
 
 pub settled_keeps : (limit : ℕ) (ts : List ℕ) (i : ℕ) → i < length ts → Settles limit ts i (settled limit ts i)
 settled_keeps limit ts i p =
-    let o = turned (length ts) limit ts i in
+    let o = turned_yellow (length ts) limit ts i in
     let k = turned_keeps (length ts) limit ts i p in
     let few = turned_few (length ts) limit ts i in
     cond_both

@@ -6,7 +6,7 @@ use Rattle.std.proofs.lemmas.List.{get_or_past}
 use Rattle.std.proofs.lemmas.List.Sums.{get_or-le-sum_by}
 use Rattle.std.proofs.lemmas.Bool.{cases_eq, cases_lt, cond_both, ltb-true}
 use Rattle.methods.specs.Model.{Lawful}
-use Rattle.methods.specs.Tokens.{Tokens, green, tokens_at}
+use Rattle.methods.specs.Tokens.{TreeState, green, tokens_at}
 use Rattle.methods.specs.Deal.{new_round}
 use Rattle.methods.specs.Arrival.{arrival}
 use Rattle.methods.specs.Tree.{Sound, tree_model}
@@ -22,7 +22,7 @@ round_sound n w p small few =
       rooted = λ some. dealt_green n w p (omega (arith, total));
     }
 
-pub arrival_sound : (q : Tokens) (i : ℕ) → Sound q → i < length q.tokens → 0 < sum q.tokens → Sound (arrival q.limit q.tokens i).after
+pub arrival_sound : (q : TreeState) (i : ℕ) → Sound q → i < length q.tokens → 0 < sum q.tokens → Sound (arrival q.limit q.tokens i).after
 arrival_sound q i s p some =
     let a = arrival_keeps q.limit q.tokens i s.small p (s.rooted some) in
     record { small = omega (arith, a.long, s.small); few = omega (arith, a.total, s.few); rooted = a.rooted }
@@ -46,7 +46,7 @@ tree_lawful =
 -- ## The root
 
 -- a root without tokens is not green
-pub green_some : (q : Tokens) → green q.limit (tokens_at q.tokens 0) ≡ true → 0 < sum q.tokens
+pub green_some : (q : TreeState) → green q.limit (tokens_at q.tokens 0) ≡ true → 0 < sum q.tokens
 green_some q g =
     let rich = ltb-true q.limit (2 * tokens_at q.tokens 0) g in
     ⊎_elim
@@ -55,7 +55,7 @@ green_some q g =
     (cases_lt 0 (length q.tokens))
 
 -- so the root never asks
-pub asker_below : (q : Tokens) (i : ℕ) → Sound q → 0 < sum q.tokens → tokens_at q.tokens i ≡ 0 → 0 < i
+pub asker_below : (q : TreeState) (i : ℕ) → Sound q → 0 < sum q.tokens → tokens_at q.tokens i ≡ 0 → 0 < i
 asker_below q i s some none =
     let rich = s.rooted some in
     ⊎_elim

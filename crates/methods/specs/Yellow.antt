@@ -4,7 +4,7 @@ use Rattle.std.proofs.Common.{ap, sym, ◌∙◌, subst, arith, length-set, get_
 use Rattle.std.proofs.lemmas.List.Sums.{sum_by-set}
 use Rattle.std.proofs.lemmas.Bool.{cond-true, cond-false, cond_both, le-ltb, ltb-true, true≢false}
 use Rattle.methods.specs.Tokens.{green, tokens_at}
-use Rattle.methods.specs.Swap.{Offers, exchange, gave, no_child, not_green, offered, or_else, turned}
+use Rattle.methods.specs.Swap.{Offers, exchange, gave, no_child, not_green, offered, or_else, turned_yellow}
 
 -- where no green child exchanged, the tokens are as they were
 pub offered_kept : (yellow : List ℕ → ℕ → Offers) (limit : ℕ) (ts : List ℕ) (i c : ℕ) → (offered yellow limit ts i c).exchanged ≡ false → (offered yellow limit ts i c).tokens ≡ ts
@@ -19,23 +19,23 @@ offered_kept yellow limit ts i c =
     (λ _ _. refl)
 
 -- the left child exchanged
-pub turned_left : (k limit : ℕ) (ts : List ℕ) (i : ℕ) (o : Offers) → i < length ts → length ts ≤ i + k → ((j : ℕ) → length ts ≤ (2 * i + 1) + j → offered (turned j limit) limit ts i (2 * i + 1) ≡ o) → o.exchanged ≡ true → turned k limit ts i ≡ o
-unfolding turned
+pub turned_left : (k limit : ℕ) (ts : List ℕ) (i : ℕ) (o : Offers) → i < length ts → length ts ≤ i + k → ((j : ℕ) → length ts ≤ (2 * i + 1) + j → offered (turned_yellow j limit) limit ts i (2 * i + 1) ≡ o) → o.exchanged ≡ true → turned_yellow k limit ts i ≡ o
+unfolding turned_yellow
 turned_left zero limit ts i o p l f e = absurd (omega arith)
 turned_left (suc k) limit ts i o p l f e =
-    let right = offered (turned k limit) limit ts i (2 * i + 2) in
+    let right = offered (turned_yellow k limit) limit ts i (2 * i + 2) in
     ap (λ x. or_else x right) (f k (omega arith)) ∙ cond-true o.exchanged _ _ e
 
 -- it did not, and the right child was asked
-pub turned_right : (k limit : ℕ) (ts ts' : List ℕ) (i : ℕ) (o o' : Offers) → i < length ts → length ts ≤ i + k → ((j : ℕ) → length ts ≤ (2 * i + 1) + j → offered (turned j limit) limit ts i (2 * i + 1) ≡ o) → o.tokens ≡ ts' → o.exchanged ≡ false → ((j : ℕ) → length ts' ≤ (2 * i + 2) + j → offered (turned j limit) limit ts' i (2 * i + 2) ≡ o') → turned k limit ts i ≡ record { tokens = o'.tokens; exchanged = o'.exchanged; sent = o.sent + o'.sent }
-unfolding turned
+pub turned_right : (k limit : ℕ) (ts ts' : List ℕ) (i : ℕ) (o o' : Offers) → i < length ts → length ts ≤ i + k → ((j : ℕ) → length ts ≤ (2 * i + 1) + j → offered (turned_yellow j limit) limit ts i (2 * i + 1) ≡ o) → o.tokens ≡ ts' → o.exchanged ≡ false → ((j : ℕ) → length ts' ≤ (2 * i + 2) + j → offered (turned_yellow j limit) limit ts' i (2 * i + 2) ≡ o') → turned_yellow k limit ts i ≡ record { tokens = o'.tokens; exchanged = o'.exchanged; sent = o.sent + o'.sent }
+unfolding turned_yellow
 turned_right zero limit ts ts' i o o' p l f s e f' = absurd (omega arith)
 turned_right (suc k) limit ts ts' i o o' p l f s e f' =
     let left = f k (omega arith) in
-    let kept : o.tokens ≡ ts = sym (ap (λ x. x.tokens) left) ∙ offered_kept (turned k limit) limit ts i (2 * i + 1) (ap (λ x. x.exchanged) left ∙ e) in
+    let kept : o.tokens ≡ ts = sym (ap (λ x. x.tokens) left) ∙ offered_kept (turned_yellow k limit) limit ts i (2 * i + 1) (ap (λ x. x.exchanged) left ∙ e) in
     let same : ts' ≡ ts = sym s ∙ kept in
-    let right : offered (turned k limit) limit ts i (2 * i + 2) ≡ o' = subst (λ (x : List ℕ). offered (turned k limit) limit x i (2 * i + 2) ≡ o') same (f' k (let z : length ts' ≡ length ts = ap length same in omega arith)) in
-    ap (λ x. or_else x (offered (turned k limit) limit ts i (2 * i + 2))) left ∙ cond-false o.exchanged _ _ e ∙ ap (λ x. record { tokens = x.tokens; exchanged = x.exchanged; sent = o.sent + x.sent }) right
+    let right : offered (turned_yellow k limit) limit ts i (2 * i + 2) ≡ o' = subst (λ (x : List ℕ). offered (turned_yellow k limit) limit x i (2 * i + 2) ≡ o') same (f' k (let z : length ts' ≡ length ts = ap length same in omega arith)) in
+    ap (λ x. or_else x (offered (turned_yellow k limit) limit ts i (2 * i + 2))) left ∙ cond-false o.exchanged _ _ e ∙ ap (λ x. record { tokens = x.tokens; exchanged = x.exchanged; sent = o.sent + x.sent }) right
 
 -- ## What offers keep
 
@@ -97,15 +97,15 @@ offered_keeps yellow limit ts i c p l ih =
     (λ _. record { total = refl; long = refl; above = λ j m. refl; again = λ e. absurd (true≢false (sym e)); still = λ _. refl }))
     (λ _. record { total = refl; long = refl; above = λ j m. refl; again = λ e. absurd (true≢false (sym e)); still = λ _. refl })
 
-pub turned_keeps : (k limit : ℕ) (ts : List ℕ) (i : ℕ) → i < length ts → Kept limit ts i (turned k limit ts i)
-unfolding turned
+pub turned_keeps : (k limit : ℕ) (ts : List ℕ) (i : ℕ) → i < length ts → Kept limit ts i (turned_yellow k limit ts i)
+unfolding turned_yellow
 turned_keeps zero limit ts i p =
     record { total = refl; long = refl; above = λ j m. refl; again = λ e. absurd (true≢false (sym e)); still = λ _. refl }
 turned_keeps (suc k) limit ts i p =
-    let left = offered_keeps (turned k limit) limit ts i (2 * i + 1) p (omega arith) (λ us q. turned_keeps k limit us (2 * i + 1) q) in
-    let right = offered_keeps (turned k limit) limit ts i (2 * i + 2) p (omega arith) (λ us q. turned_keeps k limit us (2 * i + 2) q) in
+    let left = offered_keeps (turned_yellow k limit) limit ts i (2 * i + 1) p (omega arith) (λ us q. turned_keeps k limit us (2 * i + 1) q) in
+    let right = offered_keeps (turned_yellow k limit) limit ts i (2 * i + 2) p (omega arith) (λ us q. turned_keeps k limit us (2 * i + 2) q) in
     cond_both
-    (offered (turned k limit) limit ts i (2 * i + 1)).exchanged
+    (offered (turned_yellow k limit) limit ts i (2 * i + 1)).exchanged
     _
     _
     (Kept limit ts i)
@@ -132,15 +132,15 @@ offered_few yellow limit ts i c b ih =
     (λ _. (omega arith, λ _. omega arith)))
     (λ _. (omega arith, λ _. omega arith))
 
-pub turned_few : (k limit : ℕ) (ts : List ℕ) (i : ℕ) → (turned k limit ts i).sent ≤ 4 * k
-unfolding turned
+pub turned_few : (k limit : ℕ) (ts : List ℕ) (i : ℕ) → (turned_yellow k limit ts i).sent ≤ 4 * k
+unfolding turned_yellow
 turned_few zero limit ts i = omega arith
 turned_few (suc k) limit ts i =
-    let left = offered_few (turned k limit) limit ts i (2 * i + 1) (4 * k) (λ us. turned_few k limit us (2 * i + 1)) in
-    let right = offered_few (turned k limit) limit ts i (2 * i + 2) (4 * k) (λ us. turned_few k limit us (2 * i + 2)) in
+    let left = offered_few (turned_yellow k limit) limit ts i (2 * i + 1) (4 * k) (λ us. turned_few k limit us (2 * i + 1)) in
+    let right = offered_few (turned_yellow k limit) limit ts i (2 * i + 2) (4 * k) (λ us. turned_few k limit us (2 * i + 2)) in
     let P : Offers → Type 0 = λ o. o.sent ≤ 4 * suc k in
     cond_both
-    (offered (turned k limit) limit ts i (2 * i + 1)).exchanged
+    (offered (turned_yellow k limit) limit ts i (2 * i + 1)).exchanged
     _
     _
     P
@@ -159,18 +159,18 @@ offered_same yellow yellow' limit ts i c same =
 offered_past : (yellow : List ℕ → ℕ → Offers) (limit : ℕ) (ts : List ℕ) (i c : ℕ) → length ts ≤ c → offered yellow limit ts i c ≡ no_child ts
 offered_past yellow limit ts i c p = cond-false (nat_lt c (length ts)) _ _ (le-ltb c (length ts) p)
 
-turned_past : (k limit : ℕ) (ts : List ℕ) (i : ℕ) → length ts ≤ i → turned k limit ts i ≡ no_child ts
-unfolding turned
+turned_past : (k limit : ℕ) (ts : List ℕ) (i : ℕ) → length ts ≤ i → turned_yellow k limit ts i ≡ no_child ts
+unfolding turned_yellow
 turned_past zero limit ts i p = refl
 turned_past (suc k) limit ts i p =
-    ap (λ o. or_else o (offered (turned k limit) limit ts i (2 * i + 2))) (offered_past (turned k limit) limit ts i (2 * i + 1) (omega arith)) ∙ ap (or_else (no_child ts)) (offered_past (turned k limit) limit ts i (2 * i + 2) (omega arith))
+    ap (λ o. or_else o (offered (turned_yellow k limit) limit ts i (2 * i + 2))) (offered_past (turned_yellow k limit) limit ts i (2 * i + 1) (omega arith)) ∙ ap (or_else (no_child ts)) (offered_past (turned_yellow k limit) limit ts i (2 * i + 2) (omega arith))
 
-pub turned_reach : (k j limit : ℕ) (ts : List ℕ) (i : ℕ) → length ts ≤ i + k → length ts ≤ i + j → turned k limit ts i ≡ turned j limit ts i
-unfolding turned
+pub turned_reach : (k j limit : ℕ) (ts : List ℕ) (i : ℕ) → length ts ≤ i + k → length ts ≤ i + j → turned_yellow k limit ts i ≡ turned_yellow j limit ts i
+unfolding turned_yellow
 turned_reach zero zero limit ts i p q = refl
 turned_reach zero (suc j) limit ts i p q = sym (turned_past (suc j) limit ts i (omega arith))
 turned_reach (suc k) zero limit ts i p q = turned_past (suc k) limit ts i (omega arith)
 turned_reach (suc k) (suc j) limit ts i p q =
-    let at : (c : ℕ) → i < c → offered (turned k limit) limit ts i c ≡ offered (turned j limit) limit ts i c = λ c l.
-    offered_same (turned k limit) (turned j limit) limit ts i c (λ m. let e = exchange_long ts i c in turned_reach k j limit (exchange ts i c) c (omega arith) (omega arith)) in
-    ap (λ o. or_else o (offered (turned k limit) limit ts i (2 * i + 2))) (at (2 * i + 1) (omega arith)) ∙ ap (or_else (offered (turned j limit) limit ts i (2 * i + 1))) (at (2 * i + 2) (omega arith))
+    let at : (c : ℕ) → i < c → offered (turned_yellow k limit) limit ts i c ≡ offered (turned_yellow j limit) limit ts i c = λ c l.
+    offered_same (turned_yellow k limit) (turned_yellow j limit) limit ts i c (λ m. let e = exchange_long ts i c in turned_reach k j limit (exchange ts i c) c (omega arith) (omega arith)) in
+    ap (λ o. or_else o (offered (turned_yellow k limit) limit ts i (2 * i + 2))) (at (2 * i + 1) (omega arith)) ∙ ap (or_else (offered (turned_yellow j limit) limit ts i (2 * i + 1))) (at (2 * i + 2) (omega arith))

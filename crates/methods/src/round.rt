@@ -6,7 +6,7 @@ ghost use Rattle.methods.specs.Swap.{exchange};
 ghost use Rattle.methods.specs.Tokens.{FewStations, FewTokens, green, tokens_at};
 
 use crate::deal::{dealt_to, limit_of};
-use crate::split::split;
+use crate::shares::shares;
 use arrayvec::ArrayVec;
 use common::limits::MOST_STATIONS;
 
@@ -90,14 +90,14 @@ impl Round {
     }
 
     // `giver` splits its tokens with `asker`, which has none.
-    pub(crate) fn share(&mut self, giver: usize, asker: usize)
+    pub(crate) fn split(&mut self, giver: usize, asker: usize)
         requires above { giver < asker }
         requires counted { asker < length (held self.old).tokens }
         requires empty { tokens_at (held self.old).tokens asker ≡ 0 }
         ensures { held self.new ≡ record { limit = (held self.old).limit; tokens = after_split (held self.old).tokens giver asker } }
     {
         let tokens = self.tokens.as_mut_slice();
-        let (asked, kept) = split(tokens[giver]);
+        let (asked, kept) = shares(tokens[giver]);
         tokens[giver] = kept;
         tokens[asker] = asked;
     }

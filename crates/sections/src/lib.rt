@@ -1,9 +1,9 @@
 #![tactic(auto)]
 
 pub mod bridge;
-mod bridge_rule;
+mod carries_bridge;
+mod carries_chess;
 pub mod chess;
-mod chess_rule;
 pub mod fault;
 mod figures;
 pub mod game;
@@ -16,9 +16,9 @@ pub mod sheet;
 pub mod sums;
 
 pub use bridge::{Bridge, BridgeScoring};
-pub use bridge_rule::carries_bridge_rule;
+pub use carries_bridge::carries_bridge_rule;
+pub use carries_chess::carries_chess_rule;
 pub use chess::{Chess, ChessScoring};
-pub use chess_rule::carries_chess_rule;
 pub use fault::{Cause, Fault};
 pub use game::Game;
 pub use scoring::Scoring;

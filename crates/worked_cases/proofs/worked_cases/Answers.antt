@@ -1,13 +1,13 @@
 use mathlib.Core.Path.{refl}
 use Rattle.methods.specs.Deal.{dealt}
 use Rattle.methods.specs.Climb.{climb}
-use Rattle.methods.specs.Swap.{turned}
+use Rattle.methods.specs.Swap.{turned_yellow}
 use Rattle.methods.specs.Arrival.{arrival}
 use Rattle.methods.specs.Dealing.{dealt_total}
 use Rattle.worked_cases.proofs.worked_cases.Goals as goal
 
 pub returns : goal.returns
-unfolding arrival climb dealt turned
+unfolding arrival climb dealt turned_yellow
 returns c =
     record {
       chess_19998_and_a_win_is_20000 = (refl, refl);
