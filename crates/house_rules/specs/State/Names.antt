@@ -4,11 +4,11 @@ use Rattle.house_rules.specs.declared.slip.Slip.{Slip}
 use Rattle.house_rules.specs.declared.slip.ColouredSlip.{ColouredSlip}
 
 -- the one place where names are compared
-abbrev pub same : (sender number : ℕ) (sender' number' : ℕ) → Bool
-same a b x y = x == a && y == b
+abbrev pub same_name : (sender number : ℕ) (sender' number' : ℕ) → Bool
+same_name a b x y = x == a && y == b
 
 abbrev pub named : (sender number : ℕ) → Slip → Bool
-named a b x = same a b x.sender x.number
+named a b x = same_name a b x.sender x.number
 
 -- the first slip of that name
 abbrev pub find : (sender number : ℕ) → List Slip → Option Slip
