@@ -30,12 +30,12 @@ module _ (m : Model) (rule : Rule) where
   granted_stays x (enter s a b r) e w y = (stays x (after m rule x (enter s a b r)) e refl refl, λ _. refl)
   granted_stays x (post s to line amount) e w y = (stays x (after m rule x (post s to line amount)) e refl refl, λ _. refl)
   granted_stays x (take a b) e w y = let t = taken_stays x.cells x.phase (under_way x.cells a b) e in (stays x (after m rule x (take a b)) e t.0 t.1, λ _. refl)
-  granted_stays x (open' s) e w y = absurd w
+  granted_stays x (open' s) e w y = absurd (w s refl)
   granted_stays x (turn s) e w y = absurd (both_ways (is_counting x.phase) e y.1.0)
   granted_stays x (gather s) e w y = absurd (both_ways (is_counting x.phase) e y.1.0)
   granted_stays x (report s) e w y = absurd (both_ways (is_counting x.phase) e y.1.0)
   granted_stays x close e w y = absurd (both_ways (is_counting x.phase) e y.0)
-  granted_stays x (file late_on_receipt text) e w y = (stays x (after m rule x (file late_on_receipt text)) refl refl refl, λ f. absurd f)
+  granted_stays x (file late_on_receipt text) e w y = (stays x (after m rule x (file late_on_receipt text)) refl refl refl, λ f. absurd (f late_on_receipt text refl))
 
   run_stays : (calls : List Call) (x : HouseState m.State) → is_counting x.phase ≡ false → AllByRecursion NotOpen (granted_among m rule x calls) → Stays x (run m rule x calls) × (AllByRecursion NotFile (granted_among m rule x calls) → (run m rule x calls).phase ≡ x.phase)
   run_stays [] x e w = (stays x x e refl refl, λ _. refl)

@@ -1,5 +1,5 @@
 -- What is proved of every count, for every list of calls from a made house.
-use Rattle.std.specs.Prelude.{◌≡◌, ℕ, ◌<◌, true, false, ◌↔◌, List, ◌++◌, map, ℤ, pos, None}
+use Rattle.std.specs.Prelude.{◌≡◌, ◌≢◌, ℕ, ◌<◌, true, false, ◌↔◌, List, ◌++◌, map, ℤ, pos, None}
 use Rattle.common.specs.Limits.{line_count}
 use Rattle.std.specs.List.{AllByRecursion}
 use Rattle.std.specs.List.Sorted.{IsPermutation}
@@ -8,7 +8,7 @@ use Rattle.common.specs.Questions.{first_no}
 use Rattle.methods.specs.Model.{Model}
 use Rattle.house_rules.specs.State.Names.{slips_of}
 use Rattle.house_rules.specs.State.House.{Cells, HouseState, is_counting}
-use Rattle.house_rules.specs.Calls.EveryCall.{Call, enter, post, take, open', turn, gather, report, close, file, Answer, nothing, number, sum, sent, receipt, filed, house_questions, method_questions}
+use Rattle.house_rules.specs.Calls.EveryCall.{Call, open', close, file, Answer, nothing, number, sum, sent, receipt, filed, house_questions, method_questions}
 use Rattle.house_rules.specs.Theorem.Histories.{done, refused, make, step, run, Response, refused_with, granted, responses, granted_among, is_done, History, granted_calls}
 use Rattle.common.specs.Sums.{sum_of}
 use Rattle.house_rules.specs.Calls.CountText.{score}
@@ -124,26 +124,10 @@ MethodsAgree m k =
 -- Staying: from a close, or wherever no count is open, until the next granted open, record and late list stay as they are,
 -- and so does the text; the phase stays too until a file is granted
 abbrev pub NotOpen : Call → Type 0
-NotOpen (enter s a b r) = Unit {0}
-NotOpen (post s to line amount) = Unit {0}
-NotOpen (take a b) = Unit {0}
-NotOpen (open' s) = ⊥
-NotOpen (turn s) = Unit {0}
-NotOpen (gather s) = Unit {0}
-NotOpen (report s) = Unit {0}
-NotOpen close = Unit {0}
-NotOpen (file late_on_receipt text) = Unit {0}
+NotOpen call = (s : ℕ) → call ≢ open' s
 
 abbrev pub NotFile : Call → Type 0
-NotFile (enter s a b r) = Unit {0}
-NotFile (post s to line amount) = Unit {0}
-NotFile (take a b) = Unit {0}
-NotFile (open' s) = Unit {0}
-NotFile (turn s) = Unit {0}
-NotFile (gather s) = Unit {0}
-NotFile (report s) = Unit {0}
-NotFile close = Unit {0}
-NotFile (file late_on_receipt text) = ⊥
+NotFile call = (late_on_receipt : ℕ) (text : List ℕ) → call ≢ file late_on_receipt text
 
 pub record Stays {Q : Type 0} (x y : HouseState Q) : Type 0 where
   pub shut : is_counting y.phase ≡ false  -- no count is open
