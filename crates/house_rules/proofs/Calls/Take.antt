@@ -9,19 +9,20 @@ use Rattle.house_rules.specs.declared.phase.Phase.TheVariants.{Ready, Counting, 
 use Rattle.house_rules.specs.declared.slip.ColouredSlip.{ColouredSlip}
 use Rattle.house_rules.specs.State.Colours.{differ}
 use Rattle.house_rules.specs.Theorem.Cut.{put, Cut, with_event, with_turned, with_take}
-use Rattle.house_rules.specs.State.Names.{find, find_coloured, slips_of}
+use Rattle.house_rules.specs.State.Names.{find, find_coloured, slips_of, named}
 use Rattle.house_rules.specs.Theorem.PlainHouse.{Event, takes}
 use Rattle.house_rules.specs.State.House.{Cells, station_at, sheet_at, is_counting}
 use Rattle.house_rules.specs.Calls.Take.{is_late, turns_receiver, arrives, arrives_late, arrived}
 use Rattle.house_rules.specs.Calls.Turn.{turns}
 use Rattle.house_rules.proofs.Calls.Arrival.{arrives_shape, arrives_common, arrives_between, arrives_new, arrives_old, late_shape, late_common, late_during}
 use Rattle.house_rules.proofs.Invariant.Colours.{shade}
-use Rattle.house_rules.proofs.Invariant.Cells.{cells_view, find_coloured_lem, all_coloured}
+use Rattle.house_rules.proofs.Invariant.Cells.{cells_view, find_coloured_lem}
 use Rattle.house_rules.proofs.Invariant.Phases.{is_counting_lem}
 use Rattle.house_rules.proofs.Invariant.PlainSteps.{put_own}
 use Rattle.house_rules.proofs.Invariant.Sound.{Common, Between, During, ByPhase, Sound}
 use Rattle.house_rules.proofs.Calls.Turn.{during_of, as_during, turn_sound}
 use Rattle.house_rules.proofs.Invariant.PlainHouse.{put_same}
+use Rattle.house_rules.proofs.Lists.Slips.{first_all}
 
 -- Which of the ways a take goes
 
@@ -71,12 +72,12 @@ module _ (r : Rule) (c : Cut) (p : Phase) (h : Cells) (out : ℕ) (so : Sound r 
 
   pub late? : During r c h out → p ≡ Counting → is_late p h x ≡ (c.turned x.slip.receiver && not (c.new x.slip.sender x.slip.number))
   late? k ph =
-      rw (ph, k.colouring.marked x.slip.receiver lt, k.colouring.coloured x.slip.receiver lt, all_coloured (λ (y : ColouredSlip). y.colour ≡ shade k.base (c.new y.slip.sender y.slip.number)) x.slip.sender x.slip.number h.tray x k.colouring.slips here)
+      rw (ph, k.colouring.marked x.slip.receiver lt, k.colouring.coloured x.slip.receiver lt, first_all (λ (y : ColouredSlip). y.colour ≡ shade k.base (c.new y.slip.sender y.slip.number)) (λ y. named x.slip.sender x.slip.number y.slip) h.tray x k.colouring.slips here)
       (by_colours k.base (c.turned x.slip.receiver) (c.new x.slip.sender x.slip.number)).0
 
   first? : During r c h out → p ≡ Counting → turns_receiver p h x ≡ (not (c.turned x.slip.receiver) && c.new x.slip.sender x.slip.number)
   first? k ph =
-      rw (ph, k.colouring.marked x.slip.receiver lt, k.colouring.coloured x.slip.receiver lt, all_coloured (λ (y : ColouredSlip). y.colour ≡ shade k.base (c.new y.slip.sender y.slip.number)) x.slip.sender x.slip.number h.tray x k.colouring.slips here)
+      rw (ph, k.colouring.marked x.slip.receiver lt, k.colouring.coloured x.slip.receiver lt, first_all (λ (y : ColouredSlip). y.colour ≡ shade k.base (c.new y.slip.sender y.slip.number)) (λ y. named x.slip.sender x.slip.number y.slip) h.tray x k.colouring.slips here)
       (by_colours k.base (c.turned x.slip.receiver) (c.new x.slip.sender x.slip.number)).1
 
   during_take : p ≡ Counting → (t u : Bool) → c.turned x.slip.receiver ≡ t → c.new x.slip.sender x.slip.number ≡ u → Sound r (with_event (with_turned c (put c.turned x.slip.receiver (t || u))) (t || u) (takes x.slip.sender x.slip.number)) p (arrived p h x) out

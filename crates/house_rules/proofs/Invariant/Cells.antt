@@ -1,8 +1,7 @@
 -- The cells as the plain house sees them, and what each call does to that.
-use Rattle.std.proofs.Common.{◌≡◌, ℕ, ◌+◌, ◌<◌, ◌≤◌, Bool, true, false, cond, eqb, List, [], ◌∷◌, ◌++◌, length, get_or, set, ℤ, Some, None, Option, sym, refl, ap, ◌∙◌, subst, arith}
+use Rattle.std.proofs.Common.{◌≡◌, ℕ, ◌+◌, ◌<◌, ◌≤◌, Bool, true, false, cond, eqb, List, [], ◌∷◌, ◌++◌, length, get_or, set, ℤ, Some, None, Option, sym, refl, ap, ◌∙◌, arith}
 use mathlib.Core.Path.{fun_ext}
 use Rattle.std.proofs.lemmas.List.{map-append, length-set}
-use Rattle.std.specs.List.{AllByRecursion}
 use Rattle.common.specs.Questions.{all_yes}
 use Rattle.sections.specs.Rule.{Rule}
 use Rattle.house_rules.specs.declared.slip.ColouredSlip.{ColouredSlip}
@@ -52,14 +51,6 @@ find_coloured_lem a b (y ∷ ys) x e = let ih = find_coloured_lem a b ys x in go
     go : (t : Bool) → named a b y.slip ≡ t → (find_coloured a b ys ≡ Some x → find a b (slips_of ys) ≡ Some x.slip) → cond (named a b y.slip) (Some y.slip) (find a b (slips_of ys)) ≡ Some x.slip
     go true t ih = rw t (let s : y ≡ x = cc in ap (λ k. Some k.slip) s)
     go false t ih = rw t (ih (cc))
-
-pub all_coloured : (P : ColouredSlip → Type 0) (a b : ℕ) (xs : List ColouredSlip) (x : ColouredSlip) → AllByRecursion P xs → find_coloured a b xs ≡ Some x → P x
-all_coloured P a b [] x h e = let z : ◌≡◌ {A = ℕ} 0 1 = cc in absurd (omega arith)
-all_coloured P a b (y ∷ ys) x h e = let ih = all_coloured P a b ys x h.1 in go (named a b y.slip) refl ih
-  where
-    go : (t : Bool) → named a b y.slip ≡ t → (find_coloured a b ys ≡ Some x → P x) → P x
-    go true t ih = let s : y ≡ x = cc in subst P s h.0
-    go false t ih = ih (cc)
 
 pub slips_less : (a b : ℕ) (xs : List ColouredSlip) → slips_of (without_coloured a b xs) ≡ without a b (slips_of xs)
 slips_less a b [] = refl

@@ -6,7 +6,7 @@ use Rattle.std.proofs.lemmas.Bool.Decides.{nat_tests}
 use Rattle.std.specs.List.{AllByRecursion}
 use Rattle.std.specs.List.Sorted.{IsPermutation}
 use Rattle.house_rules.specs.declared.slip.Slip.{Slip}
-use Rattle.house_rules.specs.State.Names.{same_name, named, find, without}
+use Rattle.house_rules.specs.State.Names.{same_name, named, find, without, first_where}
 
 pub same_name_refl : (a b : ℕ) → same_name a b a b ≡ true
 same_name_refl a b = and_from _ _ (eq-eqb a a refl) (eq-eqb b b refl)
@@ -26,12 +26,12 @@ pub find_named : (a b : ℕ) (xs : List Slip) (n : Slip) → find a b xs ≡ Som
 find_named a b [] n e = grind arith
 find_named a b (x ∷ xs) n e = let ih = find_named a b xs n in grind (arith, nat_tests)
 
-pub find_all : (P : Slip → Type 0) (a b : ℕ) (xs : List Slip) (n : Slip) → AllByRecursion P xs → find a b xs ≡ Some n → P n
-find_all P a b [] n h e = let z : ◌≡◌ {A = ℕ} 0 1 = cc in absurd (omega arith)
-find_all P a b (x ∷ xs) n h e = go (named a b x) refl (find_all P a b xs n h.1)
+pub first_all : {X : Type 0} (P : X → Type 0) (p : X → Bool) (xs : List X) (x : X) → AllByRecursion P xs → first_where p xs ≡ Some x → P x
+first_all P p [] x h e = let z : ◌≡◌ {A = ℕ} 0 1 = cc in absurd (omega arith)
+first_all P p (y ∷ ys) x h e = go (p y) refl (first_all P p ys x h.1)
   where
-    go : (t : Bool) → named a b x ≡ t → (find a b xs ≡ Some n → P n) → P n
-    go true t ih = let s : x ≡ n = cc in subst P s h.0
+    go : (t : Bool) → p y ≡ t → (first_where p ys ≡ Some x → P x) → P x
+    go true t ih = let s : y ≡ x = cc in subst P s h.0
     go false t ih = ih (cc)
 
 pub without_none : (a b : ℕ) (xs : List Slip) → find a b xs ≡ None → without a b xs ≡ xs

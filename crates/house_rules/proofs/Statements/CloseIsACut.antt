@@ -16,7 +16,7 @@ use Rattle.common.specs.Sums.{sum_of}
 use Rattle.sections.specs.Sums.{line_sum}
 use Rattle.house_rules.specs.Calls.CountText.{on_slip, score}
 use Rattle.house_rules.specs.Theorem.Cut.{Cut}
-use Rattle.house_rules.specs.State.Names.{find, slips_of}
+use Rattle.house_rules.specs.State.Names.{find, slips_of, named}
 use Rattle.house_rules.specs.Theorem.PlainHouse.{PlainHouse, blank}
 use Rattle.house_rules.specs.State.House.{Cells, station_at}
 use Rattle.house_rules.specs.Theorem.Statements.{Consistent, gain_of}
@@ -25,7 +25,7 @@ use Rattle.house_rules.proofs.Invariant.Cells.{cells_view}
 use Rattle.house_rules.proofs.Invariant.Names.{not_found}
 use Rattle.house_rules.proofs.Invariant.Parts.{start_numbered}
 use Rattle.house_rules.proofs.Invariant.PlainSteps.{plain_view, Fine, Plays, plays_run, plays_refuses_none, plays_both, held, plays_all}
-use Rattle.house_rules.proofs.Lists.Slips.{or_else, find_named, find_all, shuffled_from_find}
+use Rattle.house_rules.proofs.Lists.Slips.{or_else, find_named, first_all, shuffled_from_find}
 use Rattle.house_rules.proofs.Invariant.Sound.{During, Sound, all_turned}
 use Rattle.house_rules.proofs.Invariant.Cut.{pending}
 use Rattle.house_rules.proofs.Lists.Sums.{sum_shuffled, sum_blank}
@@ -91,7 +91,7 @@ module _ (r : Rule) (c : Cut) (p : Phase) (h : Cells) (out : ℕ) (so : Sound r 
           where
             bad : (x : Slip) → find a b (slips_of h.tray) ≡ Some x → ⊥
             bad x f =
-                let p = find_all (λ (y : Slip). not (c.new y.sender y.number) ≡ false) a b (slips_of h.tray) x (All-map (λ (y : Slip). not (c.new y.sender y.number) ≡ false) (λ (y : ColouredSlip). y.slip) h.tray none_old) f in
+                let p = first_all (λ (y : Slip). not (c.new y.sender y.number) ≡ false) (named a b) (slips_of h.tray) x (All-map (λ (y : Slip). not (c.new y.sender y.number) ≡ false) (λ (y : ColouredSlip). y.slip) h.tray none_old) f in
                 let q = find_named a b (slips_of h.tray) x f in
                 let p' : not (c.new a b) ≡ false = rw (q.0, q.1) at p in
                 let z : ◌≡◌ {A = ℕ} 0 1 = cc in omega arith
