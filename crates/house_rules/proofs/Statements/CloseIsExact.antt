@@ -14,7 +14,7 @@ use Rattle.house_rules.specs.declared.slip.Slip.{Slip}
 use Rattle.house_rules.specs.Calls.EveryCall.{Call, Answer, house_questions, method_questions, questions, after, reply, close}
 use Rattle.house_rules.specs.Calls.Close.{close_questions}
 use Rattle.house_rules.specs.Theorem.Cut.{Cut, no_cut, cut_after, cut_of}
-use Rattle.house_rules.specs.Calls.Make.{made_cells}
+use Rattle.house_rules.specs.Calls.Make.{Handed, made_cells}
 use Rattle.house_rules.specs.State.Names.{slips_of}
 use Rattle.house_rules.specs.Theorem.Progress.{Progress, no_progress, progress_after, progress_after_all, progress_of, Complete}
 use Rattle.house_rules.specs.Theorem.Histories.{outcome, step, next, run, only_done, granted_among, is_done, History, granted_calls}
@@ -45,15 +45,15 @@ module _ (m : Model) (ml : models.Lawful m) (rule : Rule) where
           ih (cut_after c call) (progress_after c g call) (after m rule x call) (granted_holds m ml rule c x call k e) (granted_kept m rule c g x k.sound kept call y.0)
       go (Some code) e ih = ih c g x k kept
 
-made_kept : (n t l : ℕ) → Kept no_progress Ready (made_cells n t l)
-made_kept n t l = record { opened = refl; gathered = fun_ext (λ s. ap (λ u. u.gathered) (sym (get_or-same n fresh s))); late_takes = λ s. let e : (station_at (made_cells n t l) s).unreported ≡ 0 = ap (λ u. u.unreported) (get_or-same n fresh s) in omega arith }
+made_kept : (handed : Handed) → Kept no_progress Ready (made_cells handed)
+made_kept handed = record { opened = refl; gathered = fun_ext (λ s. ap (λ u. u.gathered) (sym (get_or-same handed.n fresh s))); late_takes = λ s. let e : (station_at (made_cells handed) s).unreported ≡ 0 = ap (λ u. u.unreported) (get_or-same handed.n fresh s) in omega arith }
 
 history_kept : (m : Model) → models.Lawful m → (rule : Rule) (x : HouseState m.State) (history : History m rule x) → Kept (progress_of (granted_calls m rule x history)) x.phase x.cells
 history_kept m ml rule x history =
-    let g = made_yes m history.n history.sheets history.recorded history.tray_cells history.late_cells history.method history.first history.made in
-    let k = made_holds m rule history.n history.sheets history.recorded history.tray_cells history.late_cells history.method history.valid g.0 in
+    let g = made_yes m history.handed history.method history.first history.made in
+    let k = made_holds m rule history.handed history.method history.valid g.0 in
     subst (λ (y : HouseState m.State). Kept (progress_of (granted_calls m rule x history)) y.phase y.cells) history.leads
-    (run_kept m ml rule history.calls no_cut no_progress history.first (subst (λ y. Holds m rule no_cut y) (sym g.1) k) (subst (λ (y : HouseState m.State). Kept no_progress y.phase y.cells) (sym g.1) (made_kept history.n history.tray_cells history.late_cells)))
+    (run_kept m ml rule history.calls no_cut no_progress history.first (subst (λ y. Holds m rule no_cut y) (sym g.1) k) (subst (λ (y : HouseState m.State). Kept no_progress y.phase y.cells) (sym g.1) (made_kept history.handed)))
 
 -- the slips of a tray, without and with their colours
 all_plain : (P : Slip → Type 0) (xs : List ColouredSlip) → AllByRecursion (λ (x : ColouredSlip). P x.slip) xs → AllByRecursion P (slips_of xs)

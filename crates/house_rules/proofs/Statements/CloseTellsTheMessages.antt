@@ -54,7 +54,7 @@ module _ (m : Model) (rule : Rule) where
 
   pub history_sent : (x : HouseState m.State) (history : History m rule x) → x.cells.messages ≡ messages_since m rule history.first 0 history.calls
   history_sent x history =
-      let g = made_yes m history.n history.sheets history.recorded history.tray_cells history.late_cells history.method history.first history.made in
+      let g = made_yes m history.handed history.method history.first history.made in
       ap (λ (y : HouseState m.State). y.cells.messages) (sym history.leads)
       ∙ run_sent history.calls history.first
       ∙ ap (λ k. messages_since m rule history.first k history.calls) (ap (λ (y : HouseState m.State). y.cells.messages) g.1)

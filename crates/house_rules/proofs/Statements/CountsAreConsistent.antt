@@ -11,7 +11,7 @@ use Rattle.house_rules.specs.Calls.Close.{close_questions}
 use Rattle.common.specs.Sums.{sum_of}
 use Rattle.house_rules.specs.Calls.CountText.{score}
 use Rattle.house_rules.specs.Theorem.Cut.{Cut, no_cut, cut_after, cut_after_all, cut_of}
-use Rattle.house_rules.specs.Calls.Make.{make_questions, made_house}
+use Rattle.house_rules.specs.Calls.Make.{Handed, make_questions, made_house}
 use Rattle.house_rules.specs.State.Names.{slips_of}
 use Rattle.house_rules.specs.Theorem.Histories.{outcome, make, step, next, run, only_done, granted_among, History, granted_calls, done}
 use Rattle.house_rules.specs.State.House.{HouseState}
@@ -44,30 +44,30 @@ module _ (m : Model) (ml : models.Lawful m) (rule : Rule) where
       go (Some code) e ih = ih c x k
 
 -- what make asks, and what it gives
-pub made_yes : (m : Model) (n sheets recorded tray_cells late_cells : ℕ) (q : m.State) (x : HouseState m.State) → make m n sheets recorded tray_cells late_cells q ≡ done x nothing → AllYes (make_questions n sheets recorded tray_cells late_cells (m.rules.outstanding q)) × (x ≡ made_house n tray_cells late_cells q)
-made_yes m n sheets recorded tray_cells late_cells q x e = let g = go (first_no (make_questions n sheets recorded tray_cells late_cells (m.rules.outstanding q))) (made_house n tray_cells late_cells q) e in (all_yes_lem (make_questions n sheets recorded tray_cells late_cells (m.rules.outstanding q)) g.0, g.1)
+pub made_yes : (m : Model) (handed : Handed) (q : m.State) (x : HouseState m.State) → make m handed q ≡ done x nothing → AllYes (make_questions handed (m.rules.outstanding q)) × (x ≡ made_house handed q)
+made_yes m handed q x e = let g = go (first_no (make_questions handed (m.rules.outstanding q))) (made_house handed q) e in (all_yes_lem (make_questions handed (m.rules.outstanding q)) g.0, g.1)
   where
     go : (o : Option (ℕ × ℕ × ℕ)) (y : HouseState m.State) → outcome o y nothing ≡ done x nothing → (o ≡ None) × (x ≡ y)
     go None y e = (refl, sym (done_same y x nothing nothing e).0)
     go (Some code) y e = absurd (never_done code x nothing e)
 
-pub made_holds : (m : Model) (rule : Rule) (n sheets recorded tray_cells late_cells : ℕ) (q : m.State) → m.Valid q → AllYes (make_questions n sheets recorded tray_cells late_cells (m.rules.outstanding q)) → Holds m rule no_cut (made_house n tray_cells late_cells q)
-made_holds m rule n sheets recorded tray_cells late_cells q v y =
-    let a = and_parts (leb 1 n) (leb n 64) y.0 in
-    let b = and_parts (leb 1 tray_cells && leb tray_cells 4096) (leb 1 late_cells && leb late_cells 4096) y.1.1.0 in
-    let t = and_parts (leb 1 tray_cells) (leb tray_cells 4096) b.0 in
-    let l = and_parts (leb 1 late_cells) (leb late_cells 4096) b.1 in
+pub made_holds : (m : Model) (rule : Rule) (handed : Handed) (q : m.State) → m.Valid q → AllYes (make_questions handed (m.rules.outstanding q)) → Holds m rule no_cut (made_house handed q)
+made_holds m rule handed q v y =
+    let a = and_parts (leb 1 handed.n) (leb handed.n 64) y.0 in
+    let b = and_parts (leb 1 handed.tray_cells && leb handed.tray_cells 4096) (leb 1 handed.late_cells && leb handed.late_cells 4096) y.1.1.0 in
+    let t = and_parts (leb 1 handed.tray_cells) (leb handed.tray_cells 4096) b.0 in
+    let l = and_parts (leb 1 handed.late_cells) (leb handed.late_cells 4096) b.1 in
     let o = eqb-true (m.rules.outstanding q) 0 y.1.1.1.0 in
     record {
-      sound = made_sound rule n tray_cells late_cells (m.rules.outstanding q) (leb-true 1 n a.0) (leb-true n 64 a.1);
-      room = record { tray_cells_lem = leb-true tray_cells 4096 t.1; late_cells_lem = leb-true late_cells 4096 l.1; tray = omega arith; late = omega arith };
+      sound = made_sound rule handed (m.rules.outstanding q) (leb-true 1 handed.n a.0) (leb-true handed.n 64 a.1);
+      room = record { tray_cells_lem = leb-true handed.tray_cells 4096 t.1; late_cells_lem = leb-true handed.late_cells 4096 l.1; tray = omega arith; late = omega arith };
       served = record { valid = v; idle = λ _. o; counted = λ i. absurd (true≢false (sym i)) };
     }
 
 pub history_holds : (m : Model) → models.Lawful m → (rule : Rule) (x : HouseState m.State) (history : History m rule x) → Holds m rule (cut_of (granted_calls m rule x history)) x
 history_holds m ml rule x history =
-    let g = made_yes m history.n history.sheets history.recorded history.tray_cells history.late_cells history.method history.first history.made in
-    let k = made_holds m rule history.n history.sheets history.recorded history.tray_cells history.late_cells history.method history.valid g.0 in
+    let g = made_yes m history.handed history.method history.first history.made in
+    let k = made_holds m rule history.handed history.method history.valid g.0 in
     subst (λ y. Holds m rule (cut_of (granted_calls m rule x history)) y) history.leads
     (run_holds m ml rule history.calls no_cut history.first (subst (λ y. Holds m rule no_cut y) (sym g.1) k))
 

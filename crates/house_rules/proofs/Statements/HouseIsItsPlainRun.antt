@@ -129,8 +129,8 @@ module _ (m : Model) (ml : models.Lawful m) (rule : Rule) where
 
 pub history_ordered : (m : Model) → models.Lawful m → (rule : Rule) (x : HouseState m.State) (history : History m rule x) → (plain_run rule (blank x.cells.n) (cut_of (granted_calls m rule x history)).all).under_way ≡ slips_of x.cells.tray
 history_ordered m ml rule x history =
-    let g = made_yes m history.n history.sheets history.recorded history.tray_cells history.late_cells history.method history.first history.made in
-    let k = made_holds m rule history.n history.sheets history.recorded history.tray_cells history.late_cells history.method history.valid g.0 in
+    let g = made_yes m history.handed history.method history.first history.made in
+    let k = made_holds m rule history.handed history.method history.valid g.0 in
     subst (λ (y : HouseState m.State). Ordered rule (cut_of (granted_calls m rule x history)) y.cells) history.leads
     (run_ordered m ml rule history.calls no_cut history.first (subst (λ y. Holds m rule no_cut y) (sym g.1) k) (subst (λ (y : HouseState m.State). Ordered rule no_cut y.cells) (sym g.1) refl))
 

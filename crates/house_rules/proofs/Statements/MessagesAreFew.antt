@@ -12,7 +12,7 @@ use Rattle.house_rules.specs.Calls.EveryCall.{Call, Answer, house_questions, met
 use Rattle.house_rules.specs.State.Changes.{with_cells}
 use Rattle.house_rules.specs.Theorem.Cut.{Cut, put, no_cut, cut_after}
 use Rattle.house_rules.specs.Calls.Gather.{gather_questions, sum_at, gathered_station, gathered_cells, root_questions, root_gathers, after_gather}
-use Rattle.house_rules.specs.Calls.Make.{made_cells}
+use Rattle.house_rules.specs.Calls.Make.{Handed, made_cells}
 use Rattle.house_rules.specs.Theorem.Messages.{MessagesAreFew}
 use Rattle.house_rules.specs.Calls.Open.{cleared_station, cleared, opened_cells}
 use Rattle.house_rules.specs.Calls.Post.{posted_station}
@@ -155,17 +155,17 @@ module _ (m : Model) (ml : models.Lawful m) (rule : Rule) where
           ih (cut_after c call) (after m rule x call) (granted_holds m ml rule c x call k e) (granted_few m ml rule c x k f call y.0 y.1)
       go (Some code) e ih = ih c x k f
 
-made_few : (n t l : ℕ) → FewIn (made_cells n t l)
-made_few n t l =
-    let z = sum_n_none (λ s. (station_at (made_cells n t l) s).unreported) n (λ s _. ap (λ u. u.unreported) (get_or-same n fresh s)) in
+made_few : (handed : Handed) → FewIn (made_cells handed)
+made_few handed =
+    let z = sum_n_none (λ s. (station_at (made_cells handed) s).unreported) handed.n (λ s _. ap (λ u. u.unreported) (get_or-same handed.n fresh s)) in
     rw z (omega arith)
 
 history_few : (m : Model) → models.Lawful m → (rule : Rule) (x : HouseState m.State) → History m rule x → FewIn x.cells
 history_few m ml rule x history =
-    let g = made_yes m history.n history.sheets history.recorded history.tray_cells history.late_cells history.method history.first history.made in
-    let k = made_holds m rule history.n history.sheets history.recorded history.tray_cells history.late_cells history.method history.valid g.0 in
+    let g = made_yes m history.handed history.method history.first history.made in
+    let k = made_holds m rule history.handed history.method history.valid g.0 in
     subst (λ (y : HouseState m.State). FewIn y.cells) history.leads
-    (run_few m ml rule history.calls no_cut history.first (subst (λ y. Holds m rule no_cut y) (sym g.1) k) (subst (λ (y : HouseState m.State). FewIn y.cells) (sym g.1) (made_few history.n history.tray_cells history.late_cells)))
+    (run_few m ml rule history.calls no_cut history.first (subst (λ y. Holds m rule no_cut y) (sym g.1) k) (subst (λ (y : HouseState m.State). FewIn y.cells) (sym g.1) (made_few history.handed)))
 
 -- what a receipt tells
 abbrev late_told : Answer → ℕ

@@ -224,11 +224,11 @@ module _ (m k : Model) (ml : models.Lawful m) (kl : models.Lawful k) (rule : Rul
       go (Some a) None e e' q ih = absurd (cc)
 
 pub methods_agree : (m k : Model) → models.Lawful m → models.Lawful k → MethodsAgree m k
-methods_agree m k ml kl rule n sheets recorded tray_cells late_cells p q vp vq x y ex ey calls =
-    let gx = made_yes m n sheets recorded tray_cells late_cells p x ex in
-    let gy = made_yes k n sheets recorded tray_cells late_cells q y ey in
-    let hx = subst (λ z. Holds m rule no_cut z) (sym gx.1) (made_holds m rule n sheets recorded tray_cells late_cells p vp gx.0) in
-    let hy = subst (λ z. Holds k rule no_cut z) (sym gy.1) (made_holds k rule n sheets recorded tray_cells late_cells q vq gy.0) in
+methods_agree m k ml kl rule handed p q vp vq x y ex ey calls =
+    let gx = made_yes m handed p x ex in
+    let gy = made_yes k handed q y ey in
+    let hx = subst (λ z. Holds m rule no_cut z) (sym gx.1) (made_holds m rule handed p vp gx.0) in
+    let hy = subst (λ z. Holds k rule no_cut z) (sym gy.1) (made_holds k rule handed q vq gy.0) in
     let sa : Same m k x y =
     record {
       phase = ap (λ (z : HouseState m.State). z.phase) gx.1 ∙ sym (ap (λ (z : HouseState k.State). z.phase) gy.1);

@@ -4,7 +4,7 @@ use Rattle.sections.specs.Rule.{Rule}
 use Rattle.common.specs.Questions.{first_no}
 use Rattle.methods.specs.Model.{Model}
 use Rattle.house_rules.specs.State.House.{HouseState}
-use Rattle.house_rules.specs.Calls.Make.{make_questions, made_house}
+use Rattle.house_rules.specs.Calls.Make.{Handed, make_questions, made_house}
 use Rattle.house_rules.specs.Calls.EveryCall.{Call, Answer, nothing, questions, after, reply}
 
 -- refused with number, cause and line; or the house after the call, and its answer
@@ -17,9 +17,8 @@ abbrev pub outcome : {Q : Type 0} → Option (ℕ × ℕ × ℕ) → HouseState 
 outcome None x answer = done x answer
 outcome (Some code) x answer = refused code
 
-abbrev pub make : (m : Model) → (n sheets recorded tray_cells late_cells : ℕ) → m.State → Outcome m.State
-make m n sheets recorded tray_cells late_cells q =
-    outcome (first_no (make_questions n sheets recorded tray_cells late_cells (m.rules.outstanding q))) (made_house n tray_cells late_cells q) nothing
+abbrev pub make : (m : Model) → Handed → m.State → Outcome m.State
+make m handed q = outcome (first_no (make_questions handed (m.rules.outstanding q))) (made_house handed q) nothing
 
 abbrev pub step : (m : Model) → Rule → HouseState m.State → Call → Outcome m.State
 step m rule x call = outcome (first_no (questions m rule x call)) (after m rule x call) (reply m x call)
@@ -63,15 +62,11 @@ is_done (done x answer) = true
 
 -- the history of a house: it was made, from a method in any state with nothing outstanding, and the calls led to it
 pub record History (m : Model) (rule : Rule) (x : HouseState m.State) : Type 0 where
-  pub n : ℕ
-  pub sheets : ℕ
-  pub recorded : ℕ
-  pub tray_cells : ℕ
-  pub late_cells : ℕ
+  pub handed : Handed
   pub method : m.State
   pub valid : m.Valid method
   pub first : HouseState m.State
-  pub made : make m n sheets recorded tray_cells late_cells method ≡ done first nothing
+  pub made : make m handed method ≡ done first nothing
   pub calls : List Call
   pub leads : run m rule first calls ≡ x
 

@@ -8,6 +8,7 @@ use Rattle.common.specs.Questions.{first_no}
 use Rattle.methods.specs.Model.{Model}
 use Rattle.house_rules.specs.State.Names.{slips_of}
 use Rattle.house_rules.specs.State.House.{Cells, HouseState, is_counting}
+use Rattle.house_rules.specs.Calls.Make.{Handed}
 use Rattle.house_rules.specs.Calls.EveryCall.{Call, open', close, file, Answer, nothing, number, sum, sent, receipt, filed, house_questions, method_questions}
 use Rattle.house_rules.specs.Theorem.Histories.{done, refused, make, step, run, Response, refused_with, granted, responses, granted_among, is_done, History, granted_calls}
 use Rattle.common.specs.Sums.{sum_of}
@@ -115,9 +116,9 @@ pub record Alike {P Q : Type 0} (x : HouseState P) (y : HouseState Q) : Type 0 w
 -- houses made alike but for the method and given the same calls give the same responses (the texts are among them) and stay alike
 abbrev pub MethodsAgree : Model → Model → Type 0
 MethodsAgree m k =
-    (rule : Rule) (n sheets recorded tray_cells late_cells : ℕ) (p : m.State) (q : k.State) → m.Valid p → k.Valid q →
+    (rule : Rule) (handed : Handed) (p : m.State) (q : k.State) → m.Valid p → k.Valid q →
     (x : HouseState m.State) (y : HouseState k.State) →
-    make m n sheets recorded tray_cells late_cells p ≡ done x nothing → make k n sheets recorded tray_cells late_cells q ≡ done y nothing →
+    make m handed p ≡ done x nothing → make k handed q ≡ done y nothing →
     (calls : List Call) →
     (map response_aside (responses m rule x calls) ≡ map response_aside (responses k rule y calls)) × Alike (run m rule x calls) (run k rule y calls)
 

@@ -6,14 +6,17 @@ use Rattle.methods.specs.Tree.{tree_model}
 use Rattle.house_rules.specs.declared.phase.Phase.TheVariants.{Ready}
 use Rattle.house_rules.specs.State.Names.{slips_of}
 use Rattle.house_rules.specs.State.House.{HouseState}
-use Rattle.house_rules.specs.Calls.Make.{made_house}
+use Rattle.house_rules.specs.Calls.Make.{Handed, made_house}
 use Rattle.house_rules.specs.Calls.EveryCall.{Call, enter, post, take, open', turn, gather, report, close, file, nothing, number, sum, sent, receipt, filed}
 use Rattle.house_rules.specs.Theorem.Histories.{make, done, run, Response, refused_with, granted, responses, granted_among}
 use Rattle.house_rules.specs.Theorem.PlainHouse.{enters, posts, takes}
 use Rattle.house_rules.specs.Theorem.Cut.{cut_of}
 
+abbrev pub first_handed : Handed
+first_handed = record { n = 3; sheets = 3; recorded = 3; tray_cells = 64; late_cells = 64 }
+
 abbrev pub first_house : HouseState tree_model.State
-first_house = made_house 3 64 64 tree_model.rules.fresh
+first_house = made_house first_handed tree_model.rules.fresh
 
 -- results 2 and 1 are a win of the first line and a draw; the text handed in at the end has 80 bytes
 abbrev pub worked_calls : List Call
@@ -108,7 +111,7 @@ second_responses =
     ∷ []
 
 pub record WorkedHistory : Type 0 where
-  pub made : make tree_model 3 3 3 64 64 tree_model.rules.fresh ≡ done first_house nothing
+  pub made : make tree_model first_handed tree_model.rules.fresh ≡ done first_house nothing
   pub answered : responses tree_model chess first_house worked_calls ≡ worked_responses
   -- the half point of line 3 at station 1 is all that was recorded; the rest was under way
   pub recorded : (run tree_model chess first_house worked_calls).cells.recorded ≡ blank_sheet ∷ slice_set blank_sheet 3 (pos 1) ∷ blank_sheet ∷ []
