@@ -7,4 +7,4 @@ pub mod OpenGatherReportFile
 pub mod Make
 pub mod Outcome
 pub mod EveryCall
-pub mod Cells
+pub mod Room

@@ -1,7 +1,7 @@
 pub mod Phases
 pub mod PlainHouse
 pub mod PlainSteps
-pub mod Halls
+pub mod Cells
 pub mod Names
 pub mod Colours
 pub mod Cut

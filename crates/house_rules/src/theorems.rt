@@ -5,7 +5,7 @@ ghost use Rattle.house_rules.specs.Theorem.WorkedHistory.{WorkedHistory};
 
 use methods::Method;
 
-// After every history, the plain run of all accepted enters, posts and takes refuses none and holds the sheets of the house
+// After every history, the plain run of all granted enters, posts and takes refuses none and holds the sheets of the house
 // and, in their order, the slips of its tray.
 pub fn house_is_its_plain_run<M: Method>()
     ensures { HouseIsItsPlainRun M.Method.model }
@@ -21,7 +21,7 @@ pub fn scores_are_gains<M: Method>()
     ensures { ScoresAreGains M.Method.model }
 {}
 
-// Close is granted exactly where the count is complete by the accepted calls.
+// Close is granted exactly where the count is complete by the granted calls.
 pub fn close_is_exact<M: Method>()
     ensures { CloseIsExact M.Method.model }
 {}
@@ -31,12 +31,12 @@ pub fn method_refuses_nothing<M: Method>()
     ensures { MethodRefusesNothing M.Method.model }
 {}
 
-// Houses made alike but for the method, and given the same calls, tell the same and stay alike, messages aside.
+// Houses made alike but for the method, and given the same calls, give the same responses and stay alike, messages aside.
 pub fn methods_agree<M: Method, K: Method>()
     ensures { MethodsAgree M.Method.model K.Method.model }
 {}
 
-// Between a close and the next accepted open, record, late list and text stay as they are, whatever is called.
+// Between a close and the next granted open, record, late list and text stay as they are, whatever is called.
 pub fn counts_stay<M: Method>()
     ensures { CountsStay M.Method.model }
 {}

@@ -8,23 +8,23 @@ use Rattle.house_rules.specs.declared.phase.Phase.{Phase}
 use Rattle.house_rules.specs.declared.slip.ColouredSlip.{ColouredSlip}
 use Rattle.house_rules.specs.declared.slip.Slip.{Slip}
 use Rattle.house_rules.specs.declared.station.Station.{Station}
-use Rattle.house_rules.specs.Theorem.Cut.{put, put2, Cut, with_event}
-use Rattle.house_rules.specs.State.Names.{same, find, without, without_coloured, slips_of}
+use Rattle.house_rules.specs.Theorem.Cut.{put, put_slip, Cut, with_event}
+use Rattle.house_rules.specs.State.Names.{same_name, find, without, without_coloured, slips_of}
 use Rattle.house_rules.specs.Theorem.PlainHouse.{takes}
-use Rattle.house_rules.specs.State.House.{Hall, at, sheet_at}
+use Rattle.house_rules.specs.State.House.{Cells, station_at, sheet_at}
 use Rattle.house_rules.specs.Calls.Take.{took_station, late_station, arrives, arrives_late}
 use Rattle.house_rules.proofs.Invariant.Deficits.{Balance, balance_take_new, balance_take_old, balance_late}
 use Rattle.house_rules.proofs.Invariant.Colours.{Colouring, all_less, colouring_less, colouring_late}
-use Rattle.house_rules.proofs.Invariant.Halls.{hall_view, Shape, field_put, field_kept, slips_less, slips_push, late_acts, take_acts}
+use Rattle.house_rules.proofs.Invariant.Cells.{cells_view, Shape, field_put, field_kept, slips_less, slips_push, late_acts, take_acts}
 use Rattle.house_rules.proofs.Invariant.Names.{Naming, not_found, find_push_at, naming_less, naming_late}
 use Rattle.house_rules.proofs.Invariant.Parts.{colouring_as, balance_as, common_act, start_numbered, root_waits}
-use Rattle.house_rules.proofs.Lists.Slips.{same_true, find_without}
+use Rattle.house_rules.proofs.Lists.Slips.{same_name_true, find_without}
 use Rattle.house_rules.proofs.Invariant.Sound.{Common, Between, Tree, During, Sound}
 use Rattle.house_rules.proofs.Invariant.Cut.{pending, split_later, split_sooner}
 use Rattle.house_rules.proofs.Lists.Totals.{sum_z, sum_z_put, count, count_less}
 use Rattle.house_rules.proofs.Invariant.PlainHouse.{Acts, takes'}
 
-module _ (r : Rule) (c : Cut) (p : Phase) (h : Hall) (out : ℕ) (so : Sound r c p h out) (x : ColouredSlip) (has : find x.slip.sender x.slip.number (slips_of h.tray) ≡ Some x.slip) (yes' : all_yes (r.credit (sheet_at h x.slip.receiver) x.slip.line x.slip.amount) ≡ true) where
+module _ (r : Rule) (c : Cut) (p : Phase) (h : Cells) (out : ℕ) (so : Sound r c p h out) (x : ColouredSlip) (has : find x.slip.sender x.slip.number (slips_of h.tray) ≡ Some x.slip) (yes' : all_yes (r.credit (sheet_at h x.slip.receiver) x.slip.line x.slip.amount) ≡ true) where
   within : x.slip.receiver < h.n
   within = so.common.naming.meant x.slip.sender x.slip.number x.slip has
 
@@ -48,30 +48,30 @@ module _ (r : Rule) (c : Cut) (p : Phase) (h : Hall) (out : ℕ) (so : Sound r c
   pub arrives_shape : Shape (arrives h x)
   arrives_shape = record { some' = so.shape.some'; few = so.shape.few; sheets = length-set h.sheets x.slip.receiver _ ∙ so.shape.sheets; recorded = so.shape.recorded; stations = length-set h.stations x.slip.receiver _ ∙ so.shape.stations }
 
-  arrives_act : Acts h.n r (hall_view h) (takes' x.slip) (hall_view (arrives h x))
+  arrives_act : Acts h.n r (cells_view h) (takes' x.slip) (cells_view (arrives h x))
   arrives_act = take_acts r h so.shape x so.common.naming.apart has within yes'
 
-  pub arrives_common : Common h.n r (c.all ++ takes x.slip.sender x.slip.number ∷ []) c.posted c.receiver (hall_view (arrives h x)) (slips_of (without_coloured x.slip.sender x.slip.number h.tray)) (slips_of h.late)
+  pub arrives_common : Common h.n r (c.all ++ takes x.slip.sender x.slip.number ∷ []) c.posted c.receiver (cells_view (arrives h x)) (slips_of (without_coloured x.slip.sender x.slip.number h.tray)) (slips_of h.late)
   arrives_common =
-      common_act h.n r c.all c.posted c.posted c.receiver c.receiver (hall_view h) (hall_view (arrives h x)) (slips_of h.tray) _ (slips_of h.late) (slips_of h.late) (takes' x.slip) so.common arrives_act
-      (subst (λ l. Naming h.n (λ t. (at (arrives h x) t).posted) l (slips_of h.late)) (sym tray_is) (subst (λ p. Naming h.n p (without x.slip.sender x.slip.number (slips_of h.tray)) (slips_of h.late)) (sym posted_is) (naming_less h.n _ _ _ so.common.naming x.slip.sender x.slip.number)))
+      common_act h.n r c.all c.posted c.posted c.receiver c.receiver (cells_view h) (cells_view (arrives h x)) (slips_of h.tray) _ (slips_of h.late) (slips_of h.late) (takes' x.slip) so.common arrives_act
+      (subst (λ l. Naming h.n (λ t. (station_at (arrives h x) t).posted) l (slips_of h.late)) (sym tray_is) (subst (λ p. Naming h.n p (without x.slip.sender x.slip.number (slips_of h.tray)) (slips_of h.late)) (sym posted_is) (naming_less h.n _ _ _ so.common.naming x.slip.sender x.slip.number)))
       (λ t. so.common.sent_is t ∙ ap (λ g. g t) (sym posted_is))
       goes_less
     where
-      posted_is : ◌≡◌ {A = ℕ → ℕ} (λ t. (at (arrives h x) t).posted) (λ t. (at h t).posted)
-      posted_is = field_kept (λ t. t.posted) h.stations x.slip.receiver (took_station (at h x.slip.receiver)) ls refl
+      posted_is : ◌≡◌ {A = ℕ → ℕ} (λ t. (station_at (arrives h x) t).posted) (λ t. (station_at h t).posted)
+      posted_is = field_kept (λ t. t.posted) h.stations x.slip.receiver (took_station (station_at h x.slip.receiver)) ls refl
 
-  pub arrives_between : Between h.n (λ t. (at h t).colour) (λ t. (at h t).running) h.tray → Between h.n (λ t. (at (arrives h x) t).colour) (λ t. (at (arrives h x) t).running) (arrives h x).tray
+  pub arrives_between : Between h.n (λ t. (station_at h t).colour) (λ t. (station_at h t).running) h.tray → Between h.n (λ t. (station_at (arrives h x) t).colour) (λ t. (station_at (arrives h x) t).running) (arrives h x).tray
   arrives_between k =
       record {
         base = k.base;
-        coloured = λ t l. ap (λ f. f t) (field_kept (λ t. t.colour) h.stations x.slip.receiver (took_station (at h x.slip.receiver)) ls refl) ∙ k.coloured t l;
+        coloured = λ t l. ap (λ f. f t) (field_kept (λ t. t.colour) h.stations x.slip.receiver (took_station (station_at h x.slip.receiver)) ls refl) ∙ k.coloured t l;
         slips = all_less _ x.slip.sender x.slip.number h.tray k.slips;
         running =
-            let m = sum_z_put (λ t. (at h t).running) x.slip.receiver ((at h x.slip.receiver).running -ℤ pos 1) h.n within in
+            let m = sum_z_put (λ t. (station_at h t).running) x.slip.receiver ((station_at h x.slip.receiver).running -ℤ pos 1) h.n within in
             let g = k.running in
             let p = count_less (λ a b. true) x.slip.sender x.slip.number x.slip h.tray has in
-            ap (λ f. sum_z f h.n) (field_put (λ t. t.running) h.stations x.slip.receiver (took_station (at h x.slip.receiver)) ls) ∙ omega (arith, ints);
+            ap (λ f. sum_z f h.n) (field_put (λ t. t.running) h.stations x.slip.receiver (took_station (station_at h x.slip.receiver)) ls) ∙ omega (arith, ints);
       }
 
   module _ (k : During r c h out) where
@@ -81,22 +81,22 @@ module _ (r : Rule) (c : Cut) (p : Phase) (h : Hall) (out : ℕ) (so : Sound r c
     olds : count (λ a b. not (c.new a b)) h.tray ≡ count (λ a b. not (c.new a b)) (without_coloured x.slip.sender x.slip.number h.tray) + cond (not (c.new x.slip.sender x.slip.number)) 1 0
     olds = count_less (λ a b. not (c.new a b)) x.slip.sender x.slip.number x.slip h.tray has
 
-    arrives_colouring : Colouring h.n k.base (λ t. (at (arrives h x) t).turned) (λ t. (at (arrives h x) t).colour) (without_coloured x.slip.sender x.slip.number h.tray) (slips_of h.late) c.turned c.new
+    arrives_colouring : Colouring h.n k.base (λ t. (station_at (arrives h x) t).turned) (λ t. (station_at (arrives h x) t).colour) (without_coloured x.slip.sender x.slip.number h.tray) (slips_of h.late) c.turned c.new
     arrives_colouring =
-        colouring_as (sym (field_kept (λ t. t.turned) h.stations x.slip.receiver (took_station (at h x.slip.receiver)) ls refl)) (sym (field_kept (λ t. t.colour) h.stations x.slip.receiver (took_station (at h x.slip.receiver)) ls refl)) refl
+        colouring_as (sym (field_kept (λ t. t.turned) h.stations x.slip.receiver (took_station (station_at h x.slip.receiver)) ls refl)) (sym (field_kept (λ t. t.colour) h.stations x.slip.receiver (took_station (station_at h x.slip.receiver)) ls refl)) refl
         (colouring_less h.n k.base _ _ _ _ _ _ k.colouring x.slip.sender x.slip.number)
 
-    arrives_tree : Tree h.n (λ t. (at (arrives h x) t).gathered) c.turned
-    arrives_tree = subst (λ g. Tree h.n g c.turned) (sym (field_kept (λ t. t.gathered) h.stations x.slip.receiver (took_station (at h x.slip.receiver)) ls refl)) k.tree
+    arrives_tree : Tree h.n (λ t. (station_at (arrives h x) t).gathered) c.turned
+    arrives_tree = subst (λ g. Tree h.n g c.turned) (sym (field_kept (λ t. t.gathered) h.stations x.slip.receiver (took_station (station_at h x.slip.receiver)) ls refl)) k.tree
 
-    arrives_given : (a b : ℕ) → c.new a b ≡ true → b ≤ (at (arrives h x) a).posted
-    arrives_given a b e = rw (ap (λ g. g a) (field_kept (λ t. t.posted) h.stations x.slip.receiver (took_station (at h x.slip.receiver)) ls refl)) (k.given a b e)
+    arrives_given : (a b : ℕ) → c.new a b ≡ true → b ≤ (station_at (arrives h x) a).posted
+    arrives_given a b e = rw (ap (λ g. g a) (field_kept (λ t. t.posted) h.stations x.slip.receiver (took_station (station_at h x.slip.receiver)) ls refl)) (k.given a b e)
 
-    arrives_balance : (old new : ℕ) → Balance h.n (put (λ t. (at h t).running) x.slip.receiver ((at h x.slip.receiver).running -ℤ pos 1)) (λ t. (at h t).frozen) (λ t. (at h t).unreported) (at h 0).gathered out old new (length h.late) c.turned → old ≡ count (λ a b. not (c.new a b)) (arrives h x).tray → new ≡ count c.new (arrives h x).tray → Balance h.n (λ t. (at (arrives h x) t).running) (λ t. (at (arrives h x) t).frozen) (λ t. (at (arrives h x) t).unreported) (at (arrives h x) 0).gathered out (count (λ a b. not (c.new a b)) (arrives h x).tray) (count c.new (arrives h x).tray) (length h.late) c.turned
+    arrives_balance : (old new : ℕ) → Balance h.n (put (λ t. (station_at h t).running) x.slip.receiver ((station_at h x.slip.receiver).running -ℤ pos 1)) (λ t. (station_at h t).frozen) (λ t. (station_at h t).unreported) (station_at h 0).gathered out old new (length h.late) c.turned → old ≡ count (λ a b. not (c.new a b)) (arrives h x).tray → new ≡ count c.new (arrives h x).tray → Balance h.n (λ t. (station_at (arrives h x) t).running) (λ t. (station_at (arrives h x) t).frozen) (λ t. (station_at (arrives h x) t).unreported) (station_at (arrives h x) 0).gathered out (count (λ a b. not (c.new a b)) (arrives h x).tray) (count c.new (arrives h x).tray) (length h.late) c.turned
     arrives_balance old new b eo en =
-        balance_as (sym (field_put (λ t. t.running) h.stations x.slip.receiver (took_station (at h x.slip.receiver)) ls)) (sym (field_kept (λ t. t.frozen) h.stations x.slip.receiver (took_station (at h x.slip.receiver)) ls refl)) (sym (field_kept (λ t. t.unreported) h.stations x.slip.receiver (took_station (at h x.slip.receiver)) ls refl)) (ap (λ f. f 0) (sym (field_kept (λ t. t.gathered) h.stations x.slip.receiver (took_station (at h x.slip.receiver)) ls refl))) eo en refl b
+        balance_as (sym (field_put (λ t. t.running) h.stations x.slip.receiver (took_station (station_at h x.slip.receiver)) ls)) (sym (field_kept (λ t. t.frozen) h.stations x.slip.receiver (took_station (station_at h x.slip.receiver)) ls refl)) (sym (field_kept (λ t. t.unreported) h.stations x.slip.receiver (took_station (station_at h x.slip.receiver)) ls refl)) (ap (λ f. f 0) (sym (field_kept (λ t. t.gathered) h.stations x.slip.receiver (took_station (station_at h x.slip.receiver)) ls refl))) eo en refl b
 
-    slips_at : (a b : ℕ) → find a b (slips_of (without_coloured x.slip.sender x.slip.number h.tray)) ≡ put2 (λ a b. find a b (slips_of h.tray)) x.slip.sender x.slip.number None a b
+    slips_at : (a b : ℕ) → find a b (slips_of (without_coloured x.slip.sender x.slip.number h.tray)) ≡ put_slip (λ a b. find a b (slips_of h.tray)) x.slip.sender x.slip.number None a b
     slips_at a b = ap (λ g. g a b) arrives_act.slips
 
     -- a new slip at a station that has turned
@@ -105,15 +105,15 @@ module _ (r : Rule) (c : Cut) (p : Phase) (h : Hall) (out : ℕ) (so : Sound r c
         record {
           base = k.base;
           colouring = arrives_colouring;
-          split = split_later _ _ _ _ _ _ _ _ _ _ k.split (takes' x.slip) (hall_view (arrives h x)) (slips_of h.late) c.new arrives_act tu tt (λ _ _ q. q) (λ a b. pend a b (same x.slip.sender x.slip.number a b) refl);
+          split = split_later _ _ _ _ _ _ _ _ _ _ k.split (takes' x.slip) (cells_view (arrives h x)) (slips_of h.late) c.new arrives_act tu tt (λ _ _ q. q) (λ a b. pend a b (same_name x.slip.sender x.slip.number a b) refl);
           balance = arrives_balance _ _ (balance_take_new _ _ _ _ _ _ _ _ _ _ k.balance x.slip.receiver (count c.new (without_coloured x.slip.sender x.slip.number h.tray)) (news ∙ rw nw (omega arith)) tu within) (olds ∙ rw nw (omega arith)) refl;
           tree = arrives_tree;
           given = arrives_given;
         }
       where
-        pend : (a b : ℕ) (t : Bool) → same x.slip.sender x.slip.number a b ≡ t → pending c.new (λ a b. find a b (slips_of h.tray)) (slips_of h.late) a b ≡ pending c.new (λ a b. find a b (slips_of (without_coloured x.slip.sender x.slip.number h.tray))) (slips_of h.late) a b
+        pend : (a b : ℕ) (t : Bool) → same_name x.slip.sender x.slip.number a b ≡ t → pending c.new (λ a b. find a b (slips_of h.tray)) (slips_of h.late) a b ≡ pending c.new (λ a b. find a b (slips_of (without_coloured x.slip.sender x.slip.number h.tray))) (slips_of h.late) a b
         pend a b true t =
-            let q = same_true x.slip.sender x.slip.number a b t in
+            let q = same_name_true x.slip.sender x.slip.number a b t in
             let nw' : c.new a b ≡ true = rw (q.0, q.1) nw in
             rw nw'
         pend a b false t = rw (slips_at a b, t)
@@ -124,15 +124,15 @@ module _ (r : Rule) (c : Cut) (p : Phase) (h : Hall) (out : ℕ) (so : Sound r c
         record {
           base = k.base;
           colouring = arrives_colouring;
-          split = split_sooner _ _ _ _ _ _ _ _ _ _ k.split (takes' x.slip) (hall_view (arrives h x)) c.new (start_numbered h.n) arrives_act un nw (λ _ _ q. q) (λ a b. pend a b (same x.slip.sender x.slip.number a b) refl);
+          split = split_sooner _ _ _ _ _ _ _ _ _ _ k.split (takes' x.slip) (cells_view (arrives h x)) c.new (start_numbered h.n) arrives_act un nw (λ _ _ q. q) (λ a b. pend a b (same_name x.slip.sender x.slip.number a b) refl);
           balance = arrives_balance _ _ (balance_take_old _ _ _ _ _ _ _ _ _ _ k.balance x.slip.receiver (count (λ a b. not (c.new a b)) (without_coloured x.slip.sender x.slip.number h.tray)) (olds ∙ rw nw (omega arith)) un within (root_waits c h k.tree x.slip.receiver within un)) refl (news ∙ rw nw (omega arith));
           tree = arrives_tree;
           given = arrives_given;
         }
       where
-        pend : (a b : ℕ) (t : Bool) → same x.slip.sender x.slip.number a b ≡ t → put2 k.split.x.slips x.slip.sender x.slip.number None a b ≡ pending c.new (λ a b. find a b (slips_of (without_coloured x.slip.sender x.slip.number h.tray))) (slips_of h.late) a b
+        pend : (a b : ℕ) (t : Bool) → same_name x.slip.sender x.slip.number a b ≡ t → put_slip k.split.x.slips x.slip.sender x.slip.number None a b ≡ pending c.new (λ a b. find a b (slips_of (without_coloured x.slip.sender x.slip.number h.tray))) (slips_of h.late) a b
         pend a b true t =
-            let q = same_true x.slip.sender x.slip.number a b t in
+            let q = same_name_true x.slip.sender x.slip.number a b t in
             let nw' : c.new a b ≡ false = rw (q.0, q.1) nw in
             let nl' : find a b (slips_of h.late) ≡ None = rw (q.0, q.1) none_late in
             rw (slips_at a b, t, nw', nl')
@@ -143,24 +143,24 @@ module _ (r : Rule) (c : Cut) (p : Phase) (h : Hall) (out : ℕ) (so : Sound r c
   pub late_shape : Shape (arrives_late h x)
   late_shape = record { some' = so.shape.some'; few = so.shape.few; sheets = length-set h.sheets x.slip.receiver _ ∙ so.shape.sheets; recorded = so.shape.recorded; stations = length-set h.stations x.slip.receiver _ ∙ so.shape.stations }
 
-  late_act : Acts h.n r (hall_view h) (takes' x.slip) (hall_view (arrives_late h x))
+  late_act : Acts h.n r (cells_view h) (takes' x.slip) (cells_view (arrives_late h x))
   late_act = late_acts r h so.shape x so.common.naming.apart has within yes'
 
   late_is : slips_of (h.late ++ x ∷ []) ≡ slips_of h.late ++ x.slip ∷ []
   late_is = slips_push h.late x
 
-  pub late_common : Common h.n r (c.all ++ takes x.slip.sender x.slip.number ∷ []) c.posted c.receiver (hall_view (arrives_late h x)) (slips_of (without_coloured x.slip.sender x.slip.number h.tray)) (slips_of (h.late ++ x ∷ []))
+  pub late_common : Common h.n r (c.all ++ takes x.slip.sender x.slip.number ∷ []) c.posted c.receiver (cells_view (arrives_late h x)) (slips_of (without_coloured x.slip.sender x.slip.number h.tray)) (slips_of (h.late ++ x ∷ []))
   late_common =
-      common_act h.n r c.all c.posted c.posted c.receiver c.receiver (hall_view h) (hall_view (arrives_late h x)) (slips_of h.tray) _ (slips_of h.late) _ (takes' x.slip) so.common late_act
-      (subst (λ l. Naming h.n (λ t. (at (arrives_late h x) t).posted) (slips_of (without_coloured x.slip.sender x.slip.number h.tray)) l) (sym late_is)
-      (subst (λ l. Naming h.n (λ t. (at (arrives_late h x) t).posted) l (slips_of h.late ++ x.slip ∷ [])) (sym tray_is)
+      common_act h.n r c.all c.posted c.posted c.receiver c.receiver (cells_view h) (cells_view (arrives_late h x)) (slips_of h.tray) _ (slips_of h.late) _ (takes' x.slip) so.common late_act
+      (subst (λ l. Naming h.n (λ t. (station_at (arrives_late h x) t).posted) (slips_of (without_coloured x.slip.sender x.slip.number h.tray)) l) (sym late_is)
+      (subst (λ l. Naming h.n (λ t. (station_at (arrives_late h x) t).posted) l (slips_of h.late ++ x.slip ∷ [])) (sym tray_is)
       (subst (λ p. Naming h.n p (without x.slip.sender x.slip.number (slips_of h.tray)) (slips_of h.late ++ x.slip ∷ [])) (sym posted_is)
       (naming_late h.n _ _ _ so.common.naming x.slip has))))
       (λ t. so.common.sent_is t ∙ ap (λ g. g t) (sym posted_is))
       goes_less
     where
-      posted_is : ◌≡◌ {A = ℕ → ℕ} (λ t. (at (arrives_late h x) t).posted) (λ t. (at h t).posted)
-      posted_is = field_kept (λ t. t.posted) h.stations x.slip.receiver (late_station (at h x.slip.receiver)) ls refl
+      posted_is : ◌≡◌ {A = ℕ → ℕ} (λ t. (station_at (arrives_late h x) t).posted) (λ t. (station_at h t).posted)
+      posted_is = field_kept (λ t. t.posted) h.stations x.slip.receiver (late_station (station_at h x.slip.receiver)) ls refl
 
   pub late_during : During r c h out → c.turned x.slip.receiver ≡ true → c.new x.slip.sender x.slip.number ≡ false → During r (with_event c true (takes x.slip.sender x.slip.number)) (arrives_late h x) out
   late_during k tu nw =
@@ -169,7 +169,7 @@ module _ (r : Rule) (c : Cut) (p : Phase) (h : Hall) (out : ℕ) (so : Sound r c
         colouring =
             colouring_as (sym (field_kept (λ t. t.turned) h.stations x.slip.receiver st ls refl)) (sym (field_kept (λ t. t.colour) h.stations x.slip.receiver st ls refl)) (sym late_is)
             (colouring_late h.n k.base _ _ _ _ _ _ (colouring_less h.n k.base _ _ _ _ _ _ k.colouring x.slip.sender x.slip.number) x.slip none_late nw);
-        split = split_later _ _ _ _ _ _ _ _ _ _ k.split (takes' x.slip) (hall_view (arrives_late h x)) (slips_of (h.late ++ x ∷ [])) c.new late_act tu tt (λ _ _ q. q) (λ a b. pend a b (same x.slip.sender x.slip.number a b) refl);
+        split = split_later _ _ _ _ _ _ _ _ _ _ k.split (takes' x.slip) (cells_view (arrives_late h x)) (slips_of (h.late ++ x ∷ [])) c.new late_act tu tt (λ _ _ q. q) (λ a b. pend a b (same_name x.slip.sender x.slip.number a b) refl);
         balance =
             balance_as (sym (field_kept (λ t. t.running) h.stations x.slip.receiver st ls refl)) (sym (field_kept (λ t. t.frozen) h.stations x.slip.receiver st ls refl)) (sym (field_put (λ t. t.unreported) h.stations x.slip.receiver st ls)) (ap (λ f. f 0) (sym (field_kept (λ t. t.gathered) h.stations x.slip.receiver st ls refl))) refl (news k ∙ rw nw (omega arith)) (let p = length_push h.late x in omega arith)
             (balance_late _ _ _ _ _ _ _ _ _ _ k.balance x.slip.receiver (count (λ a b. not (c.new a b)) (without_coloured x.slip.sender x.slip.number h.tray)) (olds k ∙ rw nw (omega arith)) within);
@@ -178,14 +178,14 @@ module _ (r : Rule) (c : Cut) (p : Phase) (h : Hall) (out : ℕ) (so : Sound r c
       }
     where
       st : Station
-      st = late_station (at h x.slip.receiver)
+      st = late_station (station_at h x.slip.receiver)
 
-      late_at : (a b : ℕ) → find a b (slips_of (h.late ++ x ∷ [])) ≡ put2 (λ a b. find a b (slips_of h.late)) x.slip.sender x.slip.number (Some x.slip) a b
+      late_at : (a b : ℕ) → find a b (slips_of (h.late ++ x ∷ [])) ≡ put_slip (λ a b. find a b (slips_of h.late)) x.slip.sender x.slip.number (Some x.slip) a b
       late_at a b = ap (λ l. find a b l) late_is ∙ find_push_at (slips_of h.late) x.slip none_late a b
 
-      pend : (a b : ℕ) (t : Bool) → same x.slip.sender x.slip.number a b ≡ t → pending c.new (λ a b. find a b (slips_of h.tray)) (slips_of h.late) a b ≡ pending c.new (λ a b. find a b (slips_of (without_coloured x.slip.sender x.slip.number h.tray))) (slips_of (h.late ++ x ∷ [])) a b
+      pend : (a b : ℕ) (t : Bool) → same_name x.slip.sender x.slip.number a b ≡ t → pending c.new (λ a b. find a b (slips_of h.tray)) (slips_of h.late) a b ≡ pending c.new (λ a b. find a b (slips_of (without_coloured x.slip.sender x.slip.number h.tray))) (slips_of (h.late ++ x ∷ [])) a b
       pend a b true t =
-          let q = same_true x.slip.sender x.slip.number a b t in
+          let q = same_name_true x.slip.sender x.slip.number a b t in
           let has' : find a b (slips_of h.tray) ≡ Some x.slip = rw (q.0, q.1) has in
           rw (slips_at k a b, late_at a b, t, has')
       pend a b false t = rw (slips_at k a b, late_at a b, t)

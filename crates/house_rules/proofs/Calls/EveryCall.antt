@@ -1,4 +1,4 @@
--- Every accepted call keeps the invariant.
+-- Every granted call keeps the invariant.
 use Rattle.std.proofs.Common.{◌≡◌, ℕ, ◌+◌, ◌*◌, Bool, true, false, cond, eqb, List, pos, nat_abs, Some, None, Option, sym, refl, ap, ◌∙◌, subst}
 use Rattle.std.proofs.lemmas.Bool.{true≢false, eqb-true, ltb-true, and_parts, not-true}
 use Rattle.sections.specs.Codes.{section_code}
@@ -7,17 +7,17 @@ use Rattle.methods.specs.Model.{Model, begin_questions}
 use Rattle.house_rules.specs.declared.phase.Phase.{Phase}
 use Rattle.house_rules.specs.declared.slip.ColouredSlip.{ColouredSlip}
 use Rattle.house_rules.specs.Calls.EveryCall.{Call, house_questions, method_questions, after, enter, post, take, open', turn, gather, report, close, file}
-use Rattle.house_rules.specs.State.Changes.{with_messages, with_hall}
+use Rattle.house_rules.specs.State.Changes.{with_messages, with_cells}
 use Rattle.house_rules.specs.Theorem.Cut.{Cut, cut_after}
-use Rattle.house_rules.specs.Calls.Gather.{gathered_below, gather_questions, sum_at, gathered_hall, root_questions, root_gathers, after_gather}
+use Rattle.house_rules.specs.Calls.Gather.{gathered_below, gather_questions, sum_at, gathered_cells, root_questions, root_gathers, after_gather}
 use Rattle.house_rules.specs.State.Names.{find_coloured, slips_of}
 use Rattle.house_rules.specs.Calls.Report.{arrived_questions}
-use Rattle.house_rules.specs.State.House.{Hall, House, at, sheet_at}
-use Rattle.house_rules.specs.Calls.Take.{take_questions, arrived, taken_hall, under_way}
+use Rattle.house_rules.specs.State.House.{Cells, HouseState, station_at, sheet_at}
+use Rattle.house_rules.specs.Calls.Take.{take_questions, arrived, taken_cells, under_way}
 use Rattle.common.proofs.AllYes.{AllYes, told_tested}
 use Rattle.house_rules.proofs.Statements.CloseIsACut.{close_sound}
 use Rattle.house_rules.proofs.Calls.Enter.{enter_sound}
-use Rattle.house_rules.proofs.Invariant.Halls.{find_coloured_lem}
+use Rattle.house_rules.proofs.Invariant.Cells.{find_coloured_lem}
 use Rattle.house_rules.proofs.Invariant.WholeHouse.{Holds}
 use Rattle.house_rules.proofs.Invariant.Phases.{is_counting_lem, is_ready_lem, is_closed_lem}
 use Rattle.house_rules.proofs.Calls.Post.{post_sound}
@@ -35,8 +35,8 @@ own_name a b tray x s =
     let n = find_named a b (slips_of tray) x.slip (find_coloured_lem a b tray x s) in
     subst (λ k. find_coloured k x.slip.number tray ≡ Some x) (sym n.0) (subst (λ k. find_coloured a k tray ≡ Some x) (sym n.1) s)
 
-module _ (rule : Rule) (c : Cut) (p : Phase) (h : Hall) (out : ℕ) (so : Sound rule c p h out) where
-  taken_sound : (a b : ℕ) (o : Option ColouredSlip) → under_way h a b ≡ o → AllYes (take_questions rule p h o) → Sound rule (cut_after c (take a b)) p (taken_hall p h o) out
+module _ (rule : Rule) (c : Cut) (p : Phase) (h : Cells) (out : ℕ) (so : Sound rule c p h out) where
+  taken_sound : (a b : ℕ) (o : Option ColouredSlip) → under_way h a b ≡ o → AllYes (take_questions rule p h o) → Sound rule (cut_after c (take a b)) p (taken_cells p h o) out
   taken_sound a b None s y = absurd (true≢false (sym y.0))
   taken_sound a b (Some x) s y =
       let n = find_named a b (slips_of h.tray) x.slip (find_coloured_lem a b h.tray x s) in
@@ -44,26 +44,26 @@ module _ (rule : Rule) (c : Cut) (p : Phase) (h : Hall) (out : ℕ) (so : Sound 
       subst (λ k. Sound rule (cut_after c (take k b)) p (arrived p h x) out) n.0 (subst (λ k. Sound rule (cut_after c (take x.slip.sender k)) p (arrived p h x) out) n.1 t)
 
 -- what the method owes after a begin and after an arrival
-module _ (m : Model) (ml : models.Lawful m) (rule : Rule) (c : Cut) (x : House m.State) (k : Holds m rule c x) where
-  pub can_begin : (s : ℕ) → eqb s 0 ≡ true → AllYes (root_questions m x s) → models.CanBegin m x.method x.hall.n (nat_abs (sum_at x.hall s))
+module _ (m : Model) (ml : models.Lawful m) (rule : Rule) (c : Cut) (x : HouseState m.State) (k : Holds m rule c x) where
+  pub can_begin : (s : ℕ) → eqb s 0 ≡ true → AllYes (root_questions m x s) → models.CanBegin m x.method x.cells.n (nat_abs (sum_at x.cells s))
   can_begin s e y =
-      let y' : AllYes (begin_questions (m.rules.outstanding x.method) x.hall.n (sum_at x.hall s)) = rw e at y in
+      let y' : AllYes (begin_questions (m.rules.outstanding x.method) x.cells.n (sum_at x.cells s)) = rw e at y in
       let q = and_parts _ _ y'.0 in
       record {
         valid = k.served.valid;
         idle = eqb-true (m.rules.outstanding x.method) 0 y'.1.0;
         some_stations = k.sound.shape.some';
         few_stations = k.sound.shape.few;
-        few_arrivals = (fits_begin (sum_at x.hall s) q.1).1;
+        few_arrivals = (fits_begin (sum_at x.cells s) q.1).1;
       }
 
-  pub begun_left : (s : ℕ) → eqb s 0 ≡ true → AllYes (root_questions m x s) → (pos (m.rules.outstanding (m.rules.begun x.method x.hall.n (nat_abs (sum_at x.hall s)))) ≡ sum_at x.hall s) × (m.rules.stations (m.rules.begun x.method x.hall.n (nat_abs (sum_at x.hall s))) ≡ x.hall.n) × m.Valid (m.rules.begun x.method x.hall.n (nat_abs (sum_at x.hall s)))
+  pub begun_left : (s : ℕ) → eqb s 0 ≡ true → AllYes (root_questions m x s) → (pos (m.rules.outstanding (m.rules.begun x.method x.cells.n (nat_abs (sum_at x.cells s)))) ≡ sum_at x.cells s) × (m.rules.stations (m.rules.begun x.method x.cells.n (nat_abs (sum_at x.cells s))) ≡ x.cells.n) × m.Valid (m.rules.begun x.method x.cells.n (nat_abs (sum_at x.cells s)))
   begun_left s e y =
-      let y' : AllYes (begin_questions (m.rules.outstanding x.method) x.hall.n (sum_at x.hall s)) = rw e at y in
+      let y' : AllYes (begin_questions (m.rules.outstanding x.method) x.cells.n (sum_at x.cells s)) = rw e at y in
       let q = and_parts _ _ y'.0 in
-      let w = nat_abs (sum_at x.hall s) in
+      let w = nat_abs (sum_at x.cells s) in
       let can = can_begin s e y in
-      (ap pos (ml.begun_outstanding x.method x.hall.n w can) ∙ (fits_begin (sum_at x.hall s) q.1).0, ml.begun_stations x.method x.hall.n w can, ml.begun_valid x.method x.hall.n w can)
+      (ap pos (ml.begun_outstanding x.method x.cells.n w can) ∙ (fits_begin (sum_at x.cells s) q.1).0, ml.begun_stations x.method x.cells.n w can, ml.begun_valid x.method x.cells.n w can)
 
   pub can_arrive : (s : ℕ) → AllYes (arrived_questions m x s) → models.CanArrive m x.method s
   can_arrive s y = record { valid = k.served.valid; counted = ltb-true s (m.rules.stations x.method) y.0; awaited = ltb-true 0 (m.rules.outstanding x.method) y.1.0 }
@@ -76,41 +76,41 @@ module _ (m : Model) (ml : models.Lawful m) (rule : Rule) (c : Cut) (x : House m
   abbrev p : Phase
   p = x.phase
 
-  abbrev h : Hall
-  h = x.hall
+  abbrev h : Cells
+  h = x.cells
 
   abbrev out : ℕ
   out = m.rules.outstanding x.method
 
-  gather_kept : (s : ℕ) → AllYes (gather_questions x.phase x.hall s) → AllYes (root_questions m x s) → Sound rule c (after_gather m x s).phase (after_gather m x s).hall (m.rules.outstanding (after_gather m x s).method)
+  gather_kept : (s : ℕ) → AllYes (gather_questions x.phase x.cells s) → AllYes (root_questions m x s) → Sound rule c (after_gather m x s).phase (after_gather m x s).cells (m.rules.outstanding (after_gather m x s).method)
   gather_kept s y z = go (eqb s 0) refl
     where
-      q : (gathered_below x.hall (2 * s + 1) ≡ true) × (gathered_below x.hall (2 * s + 2) ≡ true)
+      q : (gathered_below x.cells (2 * s + 1) ≡ true) × (gathered_below x.cells (2 * s + 2) ≡ true)
       q = and_parts _ _ y.1.1.1.1.0
 
-      gathers : (messages left : ℕ) → (eqb s 0 ≡ true → pos left ≡ sum_at x.hall s) → (eqb s 0 ≡ false → left ≡ m.rules.outstanding x.method) → Sound rule c x.phase (with_messages (gathered_hall x.hall s) messages) left
-      gathers messages left root else' = gather_sound rule c x.phase x.hall (m.rules.outstanding x.method) k.sound (is_counting_lem x.phase y.1.0) s messages left root else' (ltb-true s x.hall.n y.0) y.1.1.0 (not-true _ y.1.1.1.0) q.0 q.1
+      gathers : (messages left : ℕ) → (eqb s 0 ≡ true → pos left ≡ sum_at x.cells s) → (eqb s 0 ≡ false → left ≡ m.rules.outstanding x.method) → Sound rule c x.phase (with_messages (gathered_cells x.cells s) messages) left
+      gathers messages left root else' = gather_sound rule c x.phase x.cells (m.rules.outstanding x.method) k.sound (is_counting_lem x.phase y.1.0) s messages left root else' (ltb-true s x.cells.n y.0) y.1.1.0 (not-true _ y.1.1.1.0) q.0 q.1
 
-      go : (b : Bool) → eqb s 0 ≡ b → Sound rule c (cond b (root_gathers m x s) (with_hall x (gathered_hall x.hall s))).phase (cond b (root_gathers m x s) (with_hall x (gathered_hall x.hall s))).hall (m.rules.outstanding (cond b (root_gathers m x s) (with_hall x (gathered_hall x.hall s))).method)
+      go : (b : Bool) → eqb s 0 ≡ b → Sound rule c (cond b (root_gathers m x s) (with_cells x (gathered_cells x.cells s))).phase (cond b (root_gathers m x s) (with_cells x (gathered_cells x.cells s))).cells (m.rules.outstanding (cond b (root_gathers m x s) (with_cells x (gathered_cells x.cells s))).method)
       go true e = gathers _ _ (λ _. (begun_left s e z).0) (λ f. absurd (true≢false (sym e ∙ f)))
-      go false e = gathers x.hall.messages _ (λ f. absurd (true≢false (sym f ∙ e))) (λ _. refl)
+      go false e = gathers x.cells.messages _ (λ f. absurd (true≢false (sym f ∙ e))) (λ _. refl)
 
-  pub accepted_sound : (call : Call) → AllYes (house_questions rule x.phase x.hall (m.rules.outstanding x.method) call) → AllYes (method_questions m x call) → Sound rule (cut_after c call) (after m rule x call).phase (after m rule x call).hall (m.rules.outstanding (after m rule x call).method)
-  accepted_sound (enter s a b r) y z = enter_sound rule c p h out k.sound s a b r (ltb-true s h.n y.0) (told_tested section_code (rule.entry (sheet_at h s) a b r) y.1.1)
-  accepted_sound (post s to line amount) y z =
+  pub granted_sound : (call : Call) → AllYes (house_questions rule x.phase x.cells (m.rules.outstanding x.method) call) → AllYes (method_questions m x call) → Sound rule (cut_after c call) (after m rule x call).phase (after m rule x call).cells (m.rules.outstanding (after m rule x call).method)
+  granted_sound (enter s a b r) y z = enter_sound rule c p h out k.sound s a b r (ltb-true s h.n y.0) (told_tested section_code (rule.entry (sheet_at h s) a b r) y.1.1)
+  granted_sound (post s to line amount) y z =
       let q = and_parts _ _ y.0 in
       post_sound rule c p h out k.sound s to line amount (ltb-true s h.n q.0) (ltb-true to h.n q.1) (told_tested section_code (rule.debit (sheet_at h s) line amount) y.1.1.1.1.1)
-  accepted_sound (take a b) y z = taken_sound rule c p h out k.sound a b (under_way h a b) refl y
-  accepted_sound (open' s) y z = open_sound rule c p h out k.sound s (ltb-true s h.n y.0) (is_ready_lem p y.1.0)
-  accepted_sound (turn s) y z =
+  granted_sound (take a b) y z = taken_sound rule c p h out k.sound a b (under_way h a b) refl y
+  granted_sound (open' s) y z = open_sound rule c p h out k.sound s (ltb-true s h.n y.0) (is_ready_lem p y.1.0)
+  granted_sound (turn s) y z =
       let ph = is_counting_lem p y.1.0 in
       let lt = ltb-true s h.n y.0 in
       turn_sound rule c p h out k.sound ph s lt (sym ((during_of rule c p h out k.sound ph).colouring.marked s lt) ∙ not-true _ y.1.1.0)
-  accepted_sound (gather s) y z = gather_kept s y z
-  accepted_sound (report s) y z = report_sound rule c p h out k.sound (is_counting_lem p y.1.0) s _ _ (arrived_left s z).0 (ltb-true s h.n y.0) y.1.1.0 (ltb-true 0 (at h s).unreported y.1.1.1.0)
-  accepted_sound close y z =
+  granted_sound (gather s) y z = gather_kept s y z
+  granted_sound (report s) y z = report_sound rule c p h out k.sound (is_counting_lem p y.1.0) s _ _ (arrived_left s z).0 (ltb-true s h.n y.0) y.1.1.0 (ltb-true 0 (station_at h s).unreported y.1.1.1.0)
+  granted_sound close y z =
       let ph = is_counting_lem p y.0 in
       close_sound rule c p h out k.sound (during_of rule c p h out k.sound ph) y.1.0 (eqb-true out 0 y.1.1.0)
-  accepted_sound (file told text) y z =
+  granted_sound (file late_on_receipt text) y z =
       let q = and_parts _ _ y.0 in
       file_sound rule c p h out k.sound (is_closed_lem p q.0)

@@ -1,4 +1,4 @@
--- An accepted open, gather, report and file keep the invariant.
+-- A granted open, gather, report and file keep the invariant.
 use Rattle.std.proofs.Common.{◌≡◌, ℕ, zero, suc, ◌+◌, ◌*◌, ◌<◌, Bool, true, false, not, eqb, leb, List, [], ◌∷◌, map, length, get_or, set, pos, Some, None, Option, sym, refl, ap, ◌∙◌, subst, arith}
 use mathlib.Core.Path.{fun_ext}
 use Rattle.std.proofs.lemmas.List.{length-set, length-map}
@@ -12,14 +12,14 @@ use Rattle.house_rules.specs.declared.slip.Slip.{Slip}
 use Rattle.house_rules.specs.declared.station.Station.{Station}
 use Rattle.house_rules.specs.State.Changes.{with_messages}
 use Rattle.house_rules.specs.Theorem.Cut.{put, Cut, with_open}
-use Rattle.house_rules.specs.Calls.Gather.{gathered_below, sum_at, gathered_station, gathered_hall}
+use Rattle.house_rules.specs.Calls.Gather.{gathered_below, sum_at, gathered_station, gathered_cells}
 use Rattle.house_rules.specs.State.Names.{find, slips_of}
-use Rattle.house_rules.specs.Calls.Open.{cleared_station, cleared, opened_hall}
-use Rattle.house_rules.specs.Calls.Report.{reported_station, reported_hall}
-use Rattle.house_rules.specs.State.House.{Hall, fresh, at}
+use Rattle.house_rules.specs.Calls.Open.{cleared_station, cleared, opened_cells}
+use Rattle.house_rules.specs.Calls.Report.{reported_station, reported_cells}
+use Rattle.house_rules.specs.State.House.{Cells, fresh, station_at}
 use Rattle.house_rules.proofs.Invariant.Deficits.{Balance, balance_report, balance_root}
 use Rattle.house_rules.proofs.Invariant.GatheredSum.{root_sum}
-use Rattle.house_rules.proofs.Invariant.Halls.{hall_view, field_put, field_kept}
+use Rattle.house_rules.proofs.Invariant.Cells.{cells_view, field_put, field_kept}
 use Rattle.house_rules.proofs.Invariant.Names.{Naming}
 use Rattle.house_rules.proofs.Invariant.Parts.{colouring_as, balance_as}
 use Rattle.house_rules.proofs.Invariant.PlainSteps.{same_view}
@@ -48,8 +48,8 @@ pub or_else_none : {X : Type 0} (o : Option X) → or_else o None ≡ o
 or_else_none None = refl
 or_else_none (Some x) = refl
 
-module _ (r : Rule) (c : Cut) (p : Phase) (h : Hall) (out : ℕ) (so : Sound r c p h out) where
-  pub clear_sound : Between h.n (λ s. (at h s).colour) (λ s. (at h s).running) h.tray → Sound r (clear_cut c) Counting (cleared h) out
+module _ (r : Rule) (c : Cut) (p : Phase) (h : Cells) (out : ℕ) (so : Sound r c p h out) where
+  pub clear_sound : Between h.n (λ s. (station_at h s).colour) (λ s. (station_at h s).running) h.tray → Sound r (clear_cut c) Counting (cleared h) out
   clear_sound k =
       record {
         shape = record { some' = so.shape.some'; few = so.shape.few; sheets = so.shape.sheets; recorded = so.shape.recorded; stations = length-map h.stations cleared_station ∙ so.shape.stations };
@@ -62,7 +62,7 @@ module _ (r : Rule) (c : Cut) (p : Phase) (h : Hall) (out : ℕ) (so : Sound r c
               colouring = record { marked = λ s l. ap (λ t. t.turned) (mapped h.stations s); coloured = λ s l. ap (λ t. t.colour) (mapped h.stations s) ∙ k.coloured s l; slips = k.slips; old_late = λ a b x e. refl };
               split =
                   record {
-                    x = hall_view h;
+                    x = cells_view h;
                     dpre = so.common.ds;
                     dpost = [];
                     is_pre = so.common.is_all;
@@ -85,24 +85,24 @@ module _ (r : Rule) (c : Cut) (p : Phase) (h : Hall) (out : ℕ) (so : Sound r c
             };
       }
     where
-      view : hall_view (cleared h) ≡ hall_view h
-      view = same_view (hall_view (cleared h)) (hall_view h) refl (fun_ext (λ s. ap (λ t. t.posted) (mapped h.stations s))) refl
+      view : cells_view (cleared h) ≡ cells_view h
+      view = same_view (cells_view (cleared h)) (cells_view h) refl (fun_ext (λ s. ap (λ t. t.posted) (mapped h.stations s))) refl
 
       falses : (xs : List ColouredSlip) → AllByRecursion (λ (x : ColouredSlip). false ≡ false) xs
       falses [] = tt
       falses (x ∷ xs) = (refl, falses xs)
 
-  pub open_sound : (s : ℕ) → s < h.n → p ≡ Ready → Sound r (with_open c s) Counting (opened_hall h s) out
-  open_sound s lt ph = turn_sound r (clear_cut c) Counting (cleared h) out (clear_sound (subst (λ q. ByPhase q (Between h.n (λ s. (at h s).colour) (λ s. (at h s).running) h.tray) (During r c h out)) ph so.state)) refl s lt refl
+  pub open_sound : (s : ℕ) → s < h.n → p ≡ Ready → Sound r (with_open c s) Counting (opened_cells h s) out
+  open_sound s lt ph = turn_sound r (clear_cut c) Counting (cleared h) out (clear_sound (subst (λ q. ByPhase q (Between h.n (λ s. (station_at h s).colour) (λ s. (station_at h s).running) h.tray) (During r c h out)) ph so.state)) refl s lt refl
 
   pub file_sound : p ≡ Closed → Sound r c Ready h out
-  file_sound ph = record { shape = record { some' = so.shape.some'; few = so.shape.few; sheets = so.shape.sheets; recorded = so.shape.recorded; stations = so.shape.stations }; common = so.common; state = subst (λ q. ByPhase q (Between h.n (λ s. (at h s).colour) (λ s. (at h s).running) h.tray) (During r c h out)) ph so.state }
+  file_sound ph = record { shape = record { some' = so.shape.some'; few = so.shape.few; sheets = so.shape.sheets; recorded = so.shape.recorded; stations = so.shape.stations }; common = so.common; state = subst (λ q. ByPhase q (Between h.n (λ s. (station_at h s).colour) (λ s. (station_at h s).running) h.tray) (During r c h out)) ph so.state }
 
   module _ (ph : p ≡ Counting) where
     k : During r c h out
     k = during_of r c p h out so ph
 
-    pub report_sound : (s messages left : ℕ) → left + 1 ≡ out → s < h.n → (at h 0).gathered ≡ true → 0 < (at h s).unreported → Sound r c p (with_messages (reported_hall h s) messages) left
+    pub report_sound : (s messages left : ℕ) → left + 1 ≡ out → s < h.n → (station_at h 0).gathered ≡ true → 0 < (station_at h s).unreported → Sound r c p (with_messages (reported_cells h s) messages) left
     report_sound s messages left o lt root some' =
         record {
           shape = record { some' = so.shape.some'; few = so.shape.few; sheets = so.shape.sheets; recorded = so.shape.recorded; stations = length-set h.stations s _ ∙ so.shape.stations };
@@ -120,23 +120,23 @@ module _ (r : Rule) (c : Cut) (p : Phase) (h : Hall) (out : ℕ) (so : Sound r c
         }
       where
         st : Station
-        st = reported_station (at h s)
+        st = reported_station (station_at h s)
 
         ls : s < length h.stations
         ls = rw so.shape.stations lt
 
-        kept : {Y : Type 0} (g : Station → Y) → g st ≡ g (at h s) → ◌≡◌ {A = ℕ → Y} (λ t. g (get_or (set h.stations s st) t fresh)) (λ t. g (at h t))
+        kept : {Y : Type 0} (g : Station → Y) → g st ≡ g (station_at h s) → ◌≡◌ {A = ℕ → Y} (λ t. g (get_or (set h.stations s st) t fresh)) (λ t. g (station_at h t))
         kept g e = field_kept g h.stations s st ls e
 
-        view : hall_view (with_messages (reported_hall h s) messages) ≡ hall_view h
+        view : cells_view (with_messages (reported_cells h s) messages) ≡ cells_view h
         view = same_view _ _ refl (kept (λ t. t.posted) refl) refl
 
     -- with station s gathered, what has gathered still has turned and has its children gathered
-    gathers_tree : (s : ℕ) → s < h.n → (at h s).turned ≡ true → gathered_below h (2 * s + 1) ≡ true → gathered_below h (2 * s + 2) ≡ true → Tree h.n (put (λ t. (at h t).gathered) s true) c.turned
+    gathers_tree : (s : ℕ) → s < h.n → (station_at h s).turned ≡ true → gathered_below h (2 * s + 1) ≡ true → gathered_below h (2 * s + 2) ≡ true → Tree h.n (put (λ t. (station_at h t).gathered) s true) c.turned
     gathers_tree s lt tu left right i l g = go (eqb i s) refl
       where
         G : ℕ → Bool
-        G t = (at h t).gathered
+        G t = (station_at h t).gathered
 
         more : (i : ℕ) → G i ≡ true → put G s true i ≡ true
         more i e = grind arith
@@ -153,10 +153,10 @@ module _ (r : Rule) (c : Cut) (p : Phase) (h : Hall) (out : ℕ) (so : Sound r c
             (old.0, λ j. more (2 * i + 1) (old.1 j), λ j. more (2 * i + 2) (old.2 j))
 
     -- when the root may gather, every station has turned
-    pub turned_below : (s : ℕ) → s ≡ 0 → s < h.n → (at h s).turned ≡ true → gathered_below h (2 * s + 1) ≡ true → gathered_below h (2 * s + 2) ≡ true → (t : ℕ) → t < h.n → c.turned t ≡ true
-    turned_below s z lt tu left right = all_turned h.n (put (λ t. (at h t).gathered) s true) c.turned (gathers_tree s lt tu left right) (let w : put (λ t. (at h t).gathered) s true 0 ≡ true = rw z in w)
+    pub turned_below : (s : ℕ) → s ≡ 0 → s < h.n → (station_at h s).turned ≡ true → gathered_below h (2 * s + 1) ≡ true → gathered_below h (2 * s + 2) ≡ true → (t : ℕ) → t < h.n → c.turned t ≡ true
+    turned_below s z lt tu left right = all_turned h.n (put (λ t. (station_at h t).gathered) s true) c.turned (gathers_tree s lt tu left right) (let w : put (λ t. (station_at h t).gathered) s true 0 ≡ true = rw z in w)
 
-    pub gather_sound : (s messages left : ℕ) → (eqb s 0 ≡ true → pos left ≡ sum_at h s) → (eqb s 0 ≡ false → left ≡ out) → s < h.n → (at h s).turned ≡ true → (at h s).gathered ≡ false → gathered_below h (2 * s + 1) ≡ true → gathered_below h (2 * s + 2) ≡ true → Sound r c p (with_messages (gathered_hall h s) messages) left
+    pub gather_sound : (s messages left : ℕ) → (eqb s 0 ≡ true → pos left ≡ sum_at h s) → (eqb s 0 ≡ false → left ≡ out) → s < h.n → (station_at h s).turned ≡ true → (station_at h s).gathered ≡ false → gathered_below h (2 * s + 1) ≡ true → gathered_below h (2 * s + 2) ≡ true → Sound r c p (with_messages (gathered_cells h s) messages) left
     gather_sound s messages left at-root else' lt tu ng left' right =
         record {
           shape = record { some' = so.shape.some'; few = so.shape.few; sheets = so.shape.sheets; recorded = so.shape.recorded; stations = length-set h.stations s _ ∙ so.shape.stations };
@@ -174,31 +174,31 @@ module _ (r : Rule) (c : Cut) (p : Phase) (h : Hall) (out : ℕ) (so : Sound r c
         }
       where
         st : Station
-        st = gathered_station (at h s)
+        st = gathered_station (station_at h s)
 
         ls : s < length h.stations
         ls = rw so.shape.stations lt
 
-        kept : {Y : Type 0} (g : Station → Y) → g st ≡ g (at h s) → ◌≡◌ {A = ℕ → Y} (λ t. g (get_or (set h.stations s st) t fresh)) (λ t. g (at h t))
+        kept : {Y : Type 0} (g : Station → Y) → g st ≡ g (station_at h s) → ◌≡◌ {A = ℕ → Y} (λ t. g (get_or (set h.stations s st) t fresh)) (λ t. g (station_at h t))
         kept g e = field_kept g h.stations s st ls e
 
-        view : hall_view (with_messages (gathered_hall h s) messages) ≡ hall_view h
+        view : cells_view (with_messages (gathered_cells h s) messages) ≡ cells_view h
         view = same_view _ _ refl (kept (λ t. t.posted) refl) refl
 
-        g_is : (λ t. (get_or (set h.stations s st) t fresh).gathered) ≡ put (λ t. (at h t).gathered) s true
+        g_is : (λ t. (get_or (set h.stations s st) t fresh).gathered) ≡ put (λ t. (station_at h t).gathered) s true
         g_is = field_put (λ t. t.gathered) h.stations s st ls
 
-        root_of : sum_at h 0 ≡ sum_z (λ t. (at h t).frozen) h.n
-        root_of = root_sum h.stations (rw so.shape.stations so.shape.few) ∙ ap (λ j. sum_z (λ t. (at h t).frozen) j) so.shape.stations
+        root_of : sum_at h 0 ≡ sum_z (λ t. (station_at h t).frozen) h.n
+        root_of = root_sum h.stations (rw so.shape.stations so.shape.few) ∙ ap (λ j. sum_z (λ t. (station_at h t).frozen) j) so.shape.stations
 
-        balanced : (b : Bool) → eqb s 0 ≡ b → Balance h.n (λ t. (at h t).running) (λ t. (at h t).frozen) (λ t. (at h t).unreported) (put (λ t. (at h t).gathered) s true 0) left (count (λ a b. not (c.new a b)) h.tray) (count c.new h.tray) (length h.late) c.turned
+        balanced : (b : Bool) → eqb s 0 ≡ b → Balance h.n (λ t. (station_at h t).running) (λ t. (station_at h t).frozen) (λ t. (station_at h t).unreported) (put (λ t. (station_at h t).gathered) s true 0) left (count (λ a b. not (c.new a b)) h.tray) (count c.new h.tray) (length h.late) c.turned
         balanced true q =
             let w = eqb-true s 0 q in
-            let ng' : (at h 0).gathered ≡ false = rw w at ng in
-            let r0 : put (λ t. (at h t).gathered) s true 0 ≡ true = rw w in
+            let ng' : (station_at h 0).gathered ≡ false = rw w at ng in
+            let r0 : put (λ t. (station_at h t).gathered) s true 0 ≡ true = rw w in
             let o : pos left ≡ sum_at h 0 = at-root q ∙ ap (sum_at h) w in
-            rw r0 (balance_root _ _ _ _ _ _ _ _ _ _ k.balance left ng' (all_turned h.n (put (λ t. (at h t).gathered) s true) c.turned (gathers_tree s lt tu left' right) r0) (o ∙ root_of))
+            rw r0 (balance_root _ _ _ _ _ _ _ _ _ _ k.balance left ng' (all_turned h.n (put (λ t. (station_at h t).gathered) s true) c.turned (gathers_tree s lt tu left' right) r0) (o ∙ root_of))
         balanced false q =
             let w = eqb-false s 0 q in
-            let r0 : put (λ t. (at h t).gathered) s true 0 ≡ (at h 0).gathered = put_other (λ t. (at h t).gathered) s 0 true (λ z. w (sym z)) in
+            let r0 : put (λ t. (station_at h t).gathered) s true 0 ≡ (station_at h 0).gathered = put_other (λ t. (station_at h t).gathered) s 0 true (λ z. w (sym z)) in
             rw (r0, else' q) k.balance

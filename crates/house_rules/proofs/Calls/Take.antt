@@ -1,4 +1,4 @@
--- An accepted take keeps the invariant.
+-- A granted take keeps the invariant.
 use Rattle.std.proofs.Common.{◌≡◌, ℕ, ◌<◌, Bool, true, false, not, ◌&&◌, ◌||◌, [], ◌∷◌, ◌++◌, Some, sym, refl, ap, ◌∙◌, subst, arith}
 use Rattle.common.specs.Questions.{all_yes}
 use Rattle.sections.specs.Rule.{Rule}
@@ -9,19 +9,20 @@ use Rattle.house_rules.specs.declared.phase.Phase.TheVariants.{Ready, Counting, 
 use Rattle.house_rules.specs.declared.slip.ColouredSlip.{ColouredSlip}
 use Rattle.house_rules.specs.State.Colours.{differ}
 use Rattle.house_rules.specs.Theorem.Cut.{put, Cut, with_event, with_turned, with_take}
-use Rattle.house_rules.specs.State.Names.{find, find_coloured, slips_of}
+use Rattle.house_rules.specs.State.Names.{find, find_coloured, slips_of, named}
 use Rattle.house_rules.specs.Theorem.PlainHouse.{Event, takes}
-use Rattle.house_rules.specs.State.House.{Hall, at, sheet_at, is_counting}
+use Rattle.house_rules.specs.State.House.{Cells, station_at, sheet_at, is_counting}
 use Rattle.house_rules.specs.Calls.Take.{is_late, turns_receiver, arrives, arrives_late, arrived}
 use Rattle.house_rules.specs.Calls.Turn.{turns}
 use Rattle.house_rules.proofs.Calls.Arrival.{arrives_shape, arrives_common, arrives_between, arrives_new, arrives_old, late_shape, late_common, late_during}
 use Rattle.house_rules.proofs.Invariant.Colours.{shade}
-use Rattle.house_rules.proofs.Invariant.Halls.{hall_view, find_coloured_lem, all_coloured}
+use Rattle.house_rules.proofs.Invariant.Cells.{cells_view, find_coloured_lem}
 use Rattle.house_rules.proofs.Invariant.Phases.{is_counting_lem}
 use Rattle.house_rules.proofs.Invariant.PlainSteps.{put_own}
 use Rattle.house_rules.proofs.Invariant.Sound.{Common, Between, During, ByPhase, Sound}
 use Rattle.house_rules.proofs.Calls.Turn.{during_of, as_during, turn_sound}
 use Rattle.house_rules.proofs.Invariant.PlainHouse.{put_same}
+use Rattle.house_rules.proofs.Lists.Slips.{first_all}
 
 -- Which of the ways a take goes
 
@@ -41,7 +42,7 @@ put_kept f s v e = ap (put f s) (sym e) ∙ put_own f s
 pub same_cut : (c : Cut) (q : ℕ) (t : Bool) (e : Event) → c.turned q ≡ t → with_event (with_turned c (put c.turned q t)) t e ≡ with_event c t e
 same_cut c q t e k = ap (λ f. with_event (with_turned c f) t e) (put_kept c.turned q t k)
 
-module _ (r : Rule) (c : Cut) (p : Phase) (h : Hall) (out : ℕ) (so : Sound r c p h out) (x : ColouredSlip) (here : find_coloured x.slip.sender x.slip.number h.tray ≡ Some x) (yes' : all_yes (r.credit (sheet_at h x.slip.receiver) x.slip.line x.slip.amount) ≡ true) where
+module _ (r : Rule) (c : Cut) (p : Phase) (h : Cells) (out : ℕ) (so : Sound r c p h out) (x : ColouredSlip) (here : find_coloured x.slip.sender x.slip.number h.tray ≡ Some x) (yes' : all_yes (r.credit (sheet_at h x.slip.receiver) x.slip.line x.slip.amount) ≡ true) where
   has : find x.slip.sender x.slip.number (slips_of h.tray) ≡ Some x.slip
   has = find_coloured_lem x.slip.sender x.slip.number h.tray x here
 
@@ -54,9 +55,9 @@ module _ (r : Rule) (c : Cut) (p : Phase) (h : Hall) (out : ℕ) (so : Sound r c
       (record {
         shape = arrives_shape r c p h out so x has yes';
         common =
-            subst (λ k. Common h.n r k c'.posted c'.receiver (hall_view (arrives h x)) (slips_of (arrives h x).tray) (slips_of h.late)) (sym ea)
-            (subst (λ k. Common h.n r (c.all ++ takes x.slip.sender x.slip.number ∷ []) k c'.receiver (hall_view (arrives h x)) (slips_of (arrives h x).tray) (slips_of h.late)) (sym es)
-            (subst (λ k. Common h.n r (c.all ++ takes x.slip.sender x.slip.number ∷ []) c.posted k (hall_view (arrives h x)) (slips_of (arrives h x).tray) (slips_of h.late)) (sym eg)
+            subst (λ k. Common h.n r k c'.posted c'.receiver (cells_view (arrives h x)) (slips_of (arrives h x).tray) (slips_of h.late)) (sym ea)
+            (subst (λ k. Common h.n r (c.all ++ takes x.slip.sender x.slip.number ∷ []) k c'.receiver (cells_view (arrives h x)) (slips_of (arrives h x).tray) (slips_of h.late)) (sym es)
+            (subst (λ k. Common h.n r (c.all ++ takes x.slip.sender x.slip.number ∷ []) c.posted k (cells_view (arrives h x)) (slips_of (arrives h x).tray) (slips_of h.late)) (sym eg)
             (arrives_common r c p h out so x has yes')));
         state = state' p nc so.state;
       })
@@ -64,19 +65,19 @@ module _ (r : Rule) (c : Cut) (p : Phase) (h : Hall) (out : ℕ) (so : Sound r c
       way : arrived p h x ≡ arrives h x
       way = rw nc
 
-      state' : (p : Phase) → is_counting p ≡ false → ByPhase p (Between h.n (λ s. (at h s).colour) (λ s. (at h s).running) h.tray) (During r c h out) → ByPhase p (Between h.n (λ t. (at (arrives h x) t).colour) (λ t. (at (arrives h x) t).running) (arrives h x).tray) (During r c' (arrives h x) out)
+      state' : (p : Phase) → is_counting p ≡ false → ByPhase p (Between h.n (λ s. (station_at h s).colour) (λ s. (station_at h s).running) h.tray) (During r c h out) → ByPhase p (Between h.n (λ t. (station_at (arrives h x) t).colour) (λ t. (station_at (arrives h x) t).running) (arrives h x).tray) (During r c' (arrives h x) out)
       state' Ready e k = arrives_between r c p h out so x has yes' k
       state' Counting e k = let z : ◌≡◌ {A = ℕ} 0 1 = cc in absurd (omega arith)
       state' Closed e k = arrives_between r c p h out so x has yes' k
 
   pub late? : During r c h out → p ≡ Counting → is_late p h x ≡ (c.turned x.slip.receiver && not (c.new x.slip.sender x.slip.number))
   late? k ph =
-      rw (ph, k.colouring.marked x.slip.receiver lt, k.colouring.coloured x.slip.receiver lt, all_coloured (λ (y : ColouredSlip). y.colour ≡ shade k.base (c.new y.slip.sender y.slip.number)) x.slip.sender x.slip.number h.tray x k.colouring.slips here)
+      rw (ph, k.colouring.marked x.slip.receiver lt, k.colouring.coloured x.slip.receiver lt, first_all (λ (y : ColouredSlip). y.colour ≡ shade k.base (c.new y.slip.sender y.slip.number)) (λ y. named x.slip.sender x.slip.number y.slip) h.tray x k.colouring.slips here)
       (by_colours k.base (c.turned x.slip.receiver) (c.new x.slip.sender x.slip.number)).0
 
   first? : During r c h out → p ≡ Counting → turns_receiver p h x ≡ (not (c.turned x.slip.receiver) && c.new x.slip.sender x.slip.number)
   first? k ph =
-      rw (ph, k.colouring.marked x.slip.receiver lt, k.colouring.coloured x.slip.receiver lt, all_coloured (λ (y : ColouredSlip). y.colour ≡ shade k.base (c.new y.slip.sender y.slip.number)) x.slip.sender x.slip.number h.tray x k.colouring.slips here)
+      rw (ph, k.colouring.marked x.slip.receiver lt, k.colouring.coloured x.slip.receiver lt, first_all (λ (y : ColouredSlip). y.colour ≡ shade k.base (c.new y.slip.sender y.slip.number)) (λ y. named x.slip.sender x.slip.number y.slip) h.tray x k.colouring.slips here)
       (by_colours k.base (c.turned x.slip.receiver) (c.new x.slip.sender x.slip.number)).1
 
   during_take : p ≡ Counting → (t u : Bool) → c.turned x.slip.receiver ≡ t → c.new x.slip.sender x.slip.number ≡ u → Sound r (with_event (with_turned c (put c.turned x.slip.receiver (t || u))) (t || u) (takes x.slip.sender x.slip.number)) p (arrived p h x) out

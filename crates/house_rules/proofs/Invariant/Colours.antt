@@ -7,10 +7,10 @@ use Rattle.house_rules.specs.declared.colour.Colour.{Colour}
 use Rattle.house_rules.specs.declared.slip.ColouredSlip.{ColouredSlip}
 use Rattle.house_rules.specs.declared.slip.Slip.{Slip}
 use Rattle.house_rules.specs.State.Colours.{other}
-use Rattle.house_rules.specs.Theorem.Cut.{put, put2}
-use Rattle.house_rules.specs.State.Names.{same, named, find, without_coloured, slips_of}
+use Rattle.house_rules.specs.Theorem.Cut.{put, put_slip}
+use Rattle.house_rules.specs.State.Names.{same_name, named, find, without_coloured, slips_of}
 use Rattle.house_rules.proofs.Invariant.Names.{find_push_at}
-use Rattle.house_rules.proofs.Lists.Slips.{same_refl, same_true}
+use Rattle.house_rules.proofs.Lists.Slips.{same_name_refl, same_name_true}
 
 -- the colour of what has turned, and of what has not
 abbrev pub shade : Colour → Bool → Colour
@@ -32,7 +32,7 @@ all_less P a b (x ∷ xs) h = let ih = all_less P a b xs h.1 in go (named a b x.
     go false ih = (h.0, ih)
 
 -- with a new name, what holds by the names goes on holding
-pub all_renamed : (base : Colour) (new : ℕ → ℕ → Bool) (a b : ℕ) (v : Bool) (xs : List ColouredSlip) → find a b (slips_of xs) ≡ None → AllByRecursion (λ (x : ColouredSlip). x.colour ≡ shade base (new x.slip.sender x.slip.number)) xs → AllByRecursion (λ (x : ColouredSlip). x.colour ≡ shade base (put2 new a b v x.slip.sender x.slip.number)) xs
+pub all_renamed : (base : Colour) (new : ℕ → ℕ → Bool) (a b : ℕ) (v : Bool) (xs : List ColouredSlip) → find a b (slips_of xs) ≡ None → AllByRecursion (λ (x : ColouredSlip). x.colour ≡ shade base (new x.slip.sender x.slip.number)) xs → AllByRecursion (λ (x : ColouredSlip). x.colour ≡ shade base (put_slip new a b v x.slip.sender x.slip.number)) xs
 all_renamed base new a b v [] e h = tt
 all_renamed base new a b v (x ∷ xs) e h =
     let k : named a b x.slip ≡ false = grind arith in
@@ -62,25 +62,25 @@ module _ (n : ℕ) (base : Colour) (T : ℕ → Bool) (C : ℕ → Colour) (tray
         marked = m.marked;
         coloured = m.coloured;
         slips = m.slips;
-        old_late = λ a b y e. go a b y (same x.sender x.number a b) refl e;
+        old_late = λ a b y e. go a b y (same_name x.sender x.number a b) refl e;
       }
     where
-      go : (a b : ℕ) (y : Slip) (t : Bool) → same x.sender x.number a b ≡ t → find a b (late ++ x ∷ []) ≡ Some y → new a b ≡ false
-      go a b y true t e = let q = same_true x.sender x.number a b t in rw (q.0, q.1) old
+      go : (a b : ℕ) (y : Slip) (t : Bool) → same_name x.sender x.number a b ≡ t → find a b (late ++ x ∷ []) ≡ Some y → new a b ≡ false
+      go a b y true t e = let q = same_name_true x.sender x.number a b t in rw (q.0, q.1) old
       go a b y false t e = m.old_late a b y (let f = find_push_at late x none_late a b in grind arith)
 
-  pub colouring_post : (x : ColouredSlip) (v : Bool) → x.colour ≡ shade base v → find x.slip.sender x.slip.number (slips_of tray) ≡ None → find x.slip.sender x.slip.number late ≡ None → Colouring n base T C (tray ++ x ∷ []) late turned (put2 new x.slip.sender x.slip.number v)
+  pub colouring_post : (x : ColouredSlip) (v : Bool) → x.colour ≡ shade base v → find x.slip.sender x.slip.number (slips_of tray) ≡ None → find x.slip.sender x.slip.number late ≡ None → Colouring n base T C (tray ++ x ∷ []) late turned (put_slip new x.slip.sender x.slip.number v)
   colouring_post x v col nt nl =
       record {
         marked = m.marked;
         coloured = m.coloured;
-        slips = All-append _ tray (x ∷ []) (all_renamed base new x.slip.sender x.slip.number v tray nt m.slips) (rw (same_refl x.slip.sender x.slip.number) col, tt);
-        old_late = λ a b y e. go a b y (same x.slip.sender x.slip.number a b) refl e;
+        slips = All-append _ tray (x ∷ []) (all_renamed base new x.slip.sender x.slip.number v tray nt m.slips) (rw (same_name_refl x.slip.sender x.slip.number) col, tt);
+        old_late = λ a b y e. go a b y (same_name x.slip.sender x.slip.number a b) refl e;
       }
     where
-      go : (a b : ℕ) (y : Slip) (t : Bool) → same x.slip.sender x.slip.number a b ≡ t → find a b late ≡ Some y → put2 new x.slip.sender x.slip.number v a b ≡ false
+      go : (a b : ℕ) (y : Slip) (t : Bool) → same_name x.slip.sender x.slip.number a b ≡ t → find a b late ≡ Some y → put_slip new x.slip.sender x.slip.number v a b ≡ false
       go a b y true t e =
-          let q = same_true x.slip.sender x.slip.number a b t in
+          let q = same_name_true x.slip.sender x.slip.number a b t in
           let e' : find x.slip.sender x.slip.number late ≡ Some y = rw (q.0, q.1) at e in
           let z : ◌≡◌ {A = ℕ} 0 1 = cc in absurd (omega arith)
       go a b y false t e = rw t (m.old_late a b y e)

@@ -8,9 +8,9 @@ use Rattle.std.specs.List.{AllByRecursion}
 use Rattle.sections.specs.Rule.{Rule}
 use Rattle.house_rules.specs.declared.slip.Slip.{Slip}
 use Rattle.house_rules.specs.Theorem.Cut.{put}
-use Rattle.house_rules.specs.State.Names.{same, find}
+use Rattle.house_rules.specs.State.Names.{same_name, find}
 use Rattle.house_rules.specs.Theorem.PlainHouse.{Event}
-use Rattle.house_rules.proofs.Lists.Slips.{same_true, or_else}
+use Rattle.house_rules.proofs.Lists.Slips.{same_name_true, or_else}
 use Rattle.house_rules.proofs.Invariant.PlainHouse.{View, FullEvent, event_of, actor, changed, placed, Acts, Acted, Numbered, put_same, put_other, Free, numbered_acted, acted_push, moves, enters', posts', takes'}
 
 -- a slip that is posted after the cut is new
@@ -55,12 +55,12 @@ pub free : (new : ℕ → ℕ → Bool) (d e : FullEvent) → Fresh new d → Ol
 free new (enters' s a b code) e f o = tt
 free new (posts' x) (enters' s a b code) f o = tt
 free new (posts' x) (posts' y) f o = tt
-free new (posts' x) (takes' y) f o = go (same x.sender x.number y.sender y.number) refl
+free new (posts' x) (takes' y) f o = go (same_name x.sender x.number y.sender y.number) refl
   where
-    go : (t : Bool) → same x.sender x.number y.sender y.number ≡ t → t ≡ false
+    go : (t : Bool) → same_name x.sender x.number y.sender y.number ≡ t → t ≡ false
     go false t = refl
     go true t =
-        let q = same_true x.sender x.number y.sender y.number t in
+        let q = same_name_true x.sender x.number y.sender y.number t in
         let o' : new x.sender x.number ≡ false = rw (q.0, q.1) at o in
         let z : ◌≡◌ {A = ℕ} 0 1 = cc in absurd (omega arith)
 free new (takes' x) e f o = tt

@@ -2,10 +2,10 @@
 use Rattle.std.proofs.Common.{◌≡◌, ℕ, ◌+◌, ◌<◌, ◌≤◌, Bool, true, false, List, [], ◌∷◌, ◌++◌, Some, None, Option, sym, refl, ap, ◌∙◌, subst, arith}
 use Rattle.std.proofs.lemmas.Bool.Decides.{nat_tests}
 use Rattle.house_rules.specs.declared.slip.Slip.{Slip}
-use Rattle.house_rules.specs.Theorem.Cut.{put, put2}
-use Rattle.house_rules.specs.State.Names.{same, find, without}
+use Rattle.house_rules.specs.Theorem.Cut.{put, put_slip}
+use Rattle.house_rules.specs.State.Names.{same_name, find, without}
 use Rattle.house_rules.proofs.Invariant.PlainSteps.{find_push}
-use Rattle.house_rules.proofs.Lists.Slips.{same_true, Distinct, find_without, distinct_without, distinct_push}
+use Rattle.house_rules.proofs.Lists.Slips.{same_name_true, Distinct, find_without, distinct_without, distinct_push}
 
 -- names differ in the tray, in the late list and between them; their numbers were given; receivers are stations
 pub record Naming (n : ℕ) (posted : ℕ → ℕ) (tray late : List Slip) : Type 0 where
@@ -23,7 +23,7 @@ not_found a b xs h = go (find a b xs) refl
     go None k = refl
     go (Some x) k = absurd (h x k)
 
-pub find_push_at : (xs : List Slip) (x : Slip) → find x.sender x.number xs ≡ None → (a b : ℕ) → find a b (xs ++ x ∷ []) ≡ put2 (λ a b. find a b xs) x.sender x.number (Some x) a b
+pub find_push_at : (xs : List Slip) (x : Slip) → find x.sender x.number xs ≡ None → (a b : ℕ) → find a b (xs ++ x ∷ []) ≡ put_slip (λ a b. find a b xs) x.sender x.number (Some x) a b
 find_push_at xs x e a b = ap (λ f. f a b) (find_push xs x e)
 
 module _ (n : ℕ) (posted : ℕ → ℕ) (tray late : List Slip) (p : Naming n posted tray late) where
@@ -53,7 +53,7 @@ module _ (n : ℕ) (posted : ℕ → ℕ) (tray late : List Slip) (p : Naming n 
         apart = distinct_without x.sender x.number tray p.apart;
         apart_late = distinct_push late x p.apart_late none_late;
         given = (naming_less x.sender x.number).given;
-        given_late = λ s k y e. go s k y (same x.sender x.number s k) refl e;
+        given_late = λ s k y e. go s k y (same_name x.sender x.number s k) refl e;
         out = λ s k y e. let f = find_push_at late x none_late s k in let g = p.out s k y in let w = find_without x.sender x.number s k tray p.apart in grind arith;
         meant = (naming_less x.sender x.number).meant;
       }
@@ -61,9 +61,9 @@ module _ (n : ℕ) (posted : ℕ → ℕ) (tray late : List Slip) (p : Naming n 
       none_late : find x.sender x.number late ≡ None
       none_late = not_found x.sender x.number late (λ y e. let g = p.out x.sender x.number y e in let z : ◌≡◌ {A = ℕ} 0 1 = cc in omega arith)
 
-      go : (s k : ℕ) (y : Slip) (t : Bool) → same x.sender x.number s k ≡ t → find s k (late ++ x ∷ []) ≡ Some y → k ≤ posted s
+      go : (s k : ℕ) (y : Slip) (t : Bool) → same_name x.sender x.number s k ≡ t → find s k (late ++ x ∷ []) ≡ Some y → k ≤ posted s
       go s k y true t e =
-          let q = same_true x.sender x.number s k t in
+          let q = same_name_true x.sender x.number s k t in
           let g = p.given x.sender x.number x has in
           let g' : x.number ≤ posted s = rw q.0 g in
           omega (arith, q.1)
@@ -77,12 +77,12 @@ module _ (n : ℕ) (posted : ℕ → ℕ) (tray late : List Slip) (p : Naming n 
         given = λ s k y e. let f = find_push_at tray x none_tray s k in let g = p.given s k y in grind (arith, nat_tests);
         given_late = λ s k y e. let g = p.given_late s k y e in grind (arith, nat_tests);
         out = λ s k y e. let f = find_push_at tray x none_tray s k in let g = p.out s k y e in let l = p.given_late s k y e in grind (arith, nat_tests);
-        meant = λ s k y e. meant' s k y (same x.sender x.number s k) refl (sym (find_push_at tray x none_tray s k) ∙ e);
+        meant = λ s k y e. meant' s k y (same_name x.sender x.number s k) refl (sym (find_push_at tray x none_tray s k) ∙ e);
       }
     where
       none_tray : find x.sender x.number tray ≡ None
       none_tray = rw num (fresh_tray x.sender)
 
-      meant' : (s k : ℕ) (y : Slip) (t : Bool) → same x.sender x.number s k ≡ t → put2 (λ a b. find a b tray) x.sender x.number (Some x) s k ≡ Some y → y.receiver < n
+      meant' : (s k : ℕ) (y : Slip) (t : Bool) → same_name x.sender x.number s k ≡ t → put_slip (λ a b. find a b tray) x.sender x.number (Some x) s k ≡ Some y → y.receiver < n
       meant' s k y true t e = let q : x ≡ y = cc in subst (λ (z : Slip). z.receiver < n) q lt
       meant' s k y false t e = p.meant s k y (rw t at e)

@@ -9,7 +9,7 @@ use Rattle.house_rules.specs.declared.slip.Slip.{Slip}
 use Rattle.house_rules.specs.Theorem.Cut.{Cut}
 use Rattle.house_rules.specs.State.Names.{find}
 use Rattle.house_rules.specs.Theorem.PlainHouse.{Event}
-use Rattle.house_rules.specs.State.House.{Hall, at}
+use Rattle.house_rules.specs.State.House.{Cells, station_at}
 use Rattle.house_rules.proofs.Invariant.Deficits.{Balance}
 use Rattle.house_rules.proofs.Invariant.Colours.{Colouring}
 use Rattle.house_rules.proofs.Invariant.Names.{Naming}
@@ -43,9 +43,9 @@ pub start_numbered : (n : ℕ) → Numbered (start_view n)
 start_numbered n a b x e = let z : ◌≡◌ {A = ℕ} 0 1 = cc in absurd (omega arith)
 
 -- while a station has not turned, the root has not gathered
-pub root_waits : (c : Cut) (h : Hall) → Tree h.n (λ s. (at h s).gathered) c.turned → (s : ℕ) → s < h.n → c.turned s ≡ false → (at h 0).gathered ≡ false
-root_waits c h tree s lt un = go (at h 0).gathered refl
+pub root_waits : (c : Cut) (h : Cells) → Tree h.n (λ s. (station_at h s).gathered) c.turned → (s : ℕ) → s < h.n → c.turned s ≡ false → (station_at h 0).gathered ≡ false
+root_waits c h tree s lt un = go (station_at h 0).gathered refl
   where
-    go : (b : Bool) → (at h 0).gathered ≡ b → b ≡ false
+    go : (b : Bool) → (station_at h 0).gathered ≡ b → b ≡ false
     go false e = refl
-    go true e = let k = all_turned h.n (λ s. (at h s).gathered) c.turned tree e s lt in let z : ◌≡◌ {A = ℕ} 0 1 = cc in absurd (omega arith)
+    go true e = let k = all_turned h.n (λ s. (station_at h s).gathered) c.turned tree e s lt in let z : ◌≡◌ {A = ℕ} 0 1 = cc in absurd (omega arith)

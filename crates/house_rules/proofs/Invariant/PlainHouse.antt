@@ -7,10 +7,10 @@ use Rattle.std.specs.List.{AllByRecursion}
 use Rattle.common.specs.Questions.{all_yes}
 use Rattle.sections.specs.Rule.{SectionQuestions, Rule, entered, debited, credited}
 use Rattle.house_rules.specs.declared.slip.Slip.{Slip}
-use Rattle.house_rules.specs.Theorem.Cut.{put, put2}
-use Rattle.house_rules.specs.State.Names.{same}
+use Rattle.house_rules.specs.Theorem.Cut.{put, put_slip}
+use Rattle.house_rules.specs.State.Names.{same_name}
 use Rattle.house_rules.specs.Theorem.PlainHouse.{Event, enters, posts, takes}
-use Rattle.house_rules.proofs.Lists.Slips.{same_true}
+use Rattle.house_rules.proofs.Lists.Slips.{same_name_true}
 
 -- each station's sheet and posted number, and the slip under way of each name
 pub record View : Type 0 where
@@ -55,8 +55,8 @@ tally (takes' x) k = k
 -- what it makes of the slips under way
 abbrev pub placed : FullEvent → (ℕ → ℕ → Option Slip) → ℕ → ℕ → Option Slip
 placed (enters' s a b code) m = m
-placed (posts' x) m = put2 m x.sender x.number (Some x)
-placed (takes' x) m = put2 m x.sender x.number None
+placed (posts' x) m = put_slip m x.sender x.number (Some x)
+placed (takes' x) m = put_slip m x.sender x.number None
 
 -- what an event asks of numbers and slips
 abbrev pub Fit : ℕ → FullEvent → View → Type 0
@@ -91,7 +91,7 @@ put_other f s t v h = rw (ne_eqb t s h)
 pub put_swap : {X : Type 0} (f : ℕ → X) (s t : ℕ) (v w : X) → s ≢ t → put (put f s v) t w ≡ put (put f t w) s v
 put_swap f s t v w h = fun_ext (λ x. grind (arith, nat_tests))
 
-pub put2_swap : {X : Type 0} (f : ℕ → ℕ → X) (a b c d : ℕ) (v w : X) → same a b c d ≡ false → put2 (put2 f a b v) c d w ≡ put2 (put2 f c d w) a b v
+pub put2_swap : {X : Type 0} (f : ℕ → ℕ → X) (a b c d : ℕ) (v w : X) → same_name a b c d ≡ false → put_slip (put_slip f a b v) c d w ≡ put_slip (put_slip f c d w) a b v
 put2_swap f a b c d v w h = fun_ext (λ x. fun_ext (λ y. grind (arith, nat_tests)))
 
 -- the second does not take what the first posts
@@ -99,14 +99,14 @@ abbrev pub Free : FullEvent → FullEvent → Type 0
 Free (enters' s a b code) e = Unit {0}
 Free (posts' x) (enters' s a b code) = Unit {0}
 Free (posts' x) (posts' y) = Unit {0}
-Free (posts' x) (takes' y) = same x.sender x.number y.sender y.number ≡ false
+Free (posts' x) (takes' y) = same_name x.sender x.number y.sender y.number ≡ false
 Free (takes' x) e = Unit {0}
 
 -- an event that leaves the place of a name alone
 abbrev pub Clear : FullEvent → ℕ → ℕ → Type 0
 Clear (enters' s a b code) p q = Unit {0}
-Clear (posts' x) p q = same x.sender x.number p q ≡ false
-Clear (takes' x) p q = same x.sender x.number p q ≡ false
+Clear (posts' x) p q = same_name x.sender x.number p q ≡ false
+Clear (takes' x) p q = same_name x.sender x.number p q ≡ false
 
 abbrev pub Apart : FullEvent → FullEvent → Type 0
 Apart d (enters' s a b code) = Unit {0}
@@ -118,7 +118,7 @@ placed_clear (enters' s a b code) m p q c = refl
 placed_clear (posts' x) m p q c = rw c
 placed_clear (takes' x) m p q c = rw c
 
-pub same_sym : (a b x y : ℕ) → same a b x y ≡ false → same x y a b ≡ false
+pub same_sym : (a b x y : ℕ) → same_name a b x y ≡ false → same_name x y a b ≡ false
 same_sym a b x y h = grind (arith, nat_tests)
 
 pub apart_sym : (d e : FullEvent) → Apart d e → Apart e d
@@ -162,17 +162,17 @@ apart n (posts' x) (takes' y) v w num ne fr fd fe p m = fr
 apart n (takes' x) (posts' y) v w num ne fr fd fe p m =
     let k : w.posted y.sender ≡ v.posted y.sender = ap (λ f. f y.sender) p ∙ put_other v.posted x.receiver y.sender _ (λ e. ne (sym e)) in
     let l = num x.sender x.number x fd in
-    go (same x.sender x.number y.sender y.number) refl k l
+    go (same_name x.sender x.number y.sender y.number) refl k l
   where
-    go : (t : Bool) → same x.sender x.number y.sender y.number ≡ t → w.posted y.sender ≡ v.posted y.sender → x.number ≤ v.posted x.sender → t ≡ false
+    go : (t : Bool) → same_name x.sender x.number y.sender y.number ≡ t → w.posted y.sender ≡ v.posted y.sender → x.number ≤ v.posted x.sender → t ≡ false
     go false t k l = refl
     go true t k l =
-        let q = same_true x.sender x.number y.sender y.number t in
+        let q = same_name_true x.sender x.number y.sender y.number t in
         let l' : x.number ≤ v.posted y.sender = rw q.0 l in
         let g = fe.0 in
         absurd (omega (arith, q.1))
 apart n (takes' x) (takes' y) v w num ne fr fd fe p m =
-    let k : w.slips y.sender y.number ≡ put2 v.slips x.sender x.number None y.sender y.number = ap (λ f. f y.sender y.number) m in
+    let k : w.slips y.sender y.number ≡ put_slip v.slips x.sender x.number None y.sender y.number = ap (λ f. f y.sender y.number) m in
     grind arith
 
 -- two events of different stations change places
@@ -213,11 +213,11 @@ numbered_acts n r v w (enters' s p q code) num h a b x e =
     let k = num a b x (ap (λ f. f a b) (sym h.slips) ∙ e) in omega arith
 numbered_acts n r v w (posts' y) num h a b x e =
     let g = posted_grows n r v w (posts' y) h a in
-    go (same y.sender y.number a b) refl (ap (λ f. f a b) (sym h.slips) ∙ e) g
+    go (same_name y.sender y.number a b) refl (ap (λ f. f a b) (sym h.slips) ∙ e) g
   where
-    go : (t : Bool) → same y.sender y.number a b ≡ t → put2 v.slips y.sender y.number (Some y) a b ≡ Some x → v.posted a ≤ w.posted a → b ≤ w.posted a
+    go : (t : Bool) → same_name y.sender y.number a b ≡ t → put_slip v.slips y.sender y.number (Some y) a b ≡ Some x → v.posted a ≤ w.posted a → b ≤ w.posted a
     go true t e' g =
-        let q = same_true y.sender y.number a b t in
+        let q = same_name_true y.sender y.number a b t in
         let f = h.fit.0 in
         let p : w.posted y.sender ≡ (v.posted y.sender + 1) = ap (λ f. f y.sender) h.posted ∙ put_same v.posted y.sender _ in
         let p' : w.posted a ≡ (v.posted y.sender + 1) = rw q.0 p in
@@ -225,9 +225,9 @@ numbered_acts n r v w (posts' y) num h a b x e =
     go false t e' g = let k = num a b x (rw t at e') in omega arith
 numbered_acts n r v w (takes' y) num h a b x e =
     let g = posted_grows n r v w (takes' y) h a in
-    go (same y.sender y.number a b) refl (ap (λ f. f a b) (sym h.slips) ∙ e) g
+    go (same_name y.sender y.number a b) refl (ap (λ f. f a b) (sym h.slips) ∙ e) g
   where
-    go : (t : Bool) → same y.sender y.number a b ≡ t → put2 v.slips y.sender y.number None a b ≡ Some x → v.posted a ≤ w.posted a → b ≤ w.posted a
+    go : (t : Bool) → same_name y.sender y.number a b ≡ t → put_slip v.slips y.sender y.number None a b ≡ Some x → v.posted a ≤ w.posted a → b ≤ w.posted a
     go true t e' g = let z : ◌≡◌ {A = ℕ} 0 1 = cc in absurd (omega arith)
     go false t e' g = let k = num a b x (rw t at e') in omega arith
 

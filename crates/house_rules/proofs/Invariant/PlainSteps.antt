@@ -10,13 +10,13 @@ use Rattle.house_rules.specs.declared.slip.Slip.{Slip}
 use Rattle.common.specs.Sums.{sum_of}
 use Rattle.sections.specs.Sums.{line_sum}
 use Rattle.house_rules.specs.Calls.CountText.{on_slip, on_slips}
-use Rattle.house_rules.specs.Theorem.Cut.{put, put2}
-use Rattle.house_rules.specs.State.Names.{same, find, without}
+use Rattle.house_rules.specs.Theorem.Cut.{put, put_slip}
+use Rattle.house_rules.specs.State.Names.{same_name, find, without}
 use Rattle.house_rules.specs.Theorem.PlainHouse.{PlainHouse, Event, plain_step, or_stays, plain_run, RefusesNone}
 use Rattle.house_rules.specs.Theorem.Statements.{gain_of}
 use Rattle.sections.proofs.Gains.{length-entered, figure_entered}
 use Rattle.house_rules.proofs.Lists.Figures.{figure_debited, figure_credited}
-use Rattle.house_rules.proofs.Lists.Slips.{same_refl, same_true, find_append, Distinct, find_without, distinct_without, distinct_push}
+use Rattle.house_rules.proofs.Lists.Slips.{same_name_refl, same_name_true, find_append, Distinct, find_without, distinct_without, distinct_push}
 use Rattle.common.proofs.Sums.{sum_push}
 use Rattle.house_rules.proofs.Lists.Sums.{sum_set, sum_without}
 use Rattle.house_rules.proofs.Invariant.PlainHouse.{View, FullEvent, event_of, changed, Acts, Acted, Numbered, numbered_acts, enters', posts', takes'}
@@ -45,17 +45,17 @@ put_own f s = fun_ext (λ t. grind (arith, nat_tests))
 pub same_view : (v w : View) → v.sheet ≡ w.sheet → v.posted ≡ w.posted → v.slips ≡ w.slips → v ≡ w
 same_view v w p q m = λ i. record { sheet = p i; posted = q i; slips = m i }
 
-pub find_push : (xs : List Slip) (x : Slip) → find x.sender x.number xs ≡ None → (λ (a b : ℕ). find a b (xs ++ x ∷ [])) ≡ put2 (λ a b. find a b xs) x.sender x.number (Some x)
-find_push xs x e = fun_ext (λ a. fun_ext (λ b. go a b (same x.sender x.number a b) refl))
+pub find_push : (xs : List Slip) (x : Slip) → find x.sender x.number xs ≡ None → (λ (a b : ℕ). find a b (xs ++ x ∷ [])) ≡ put_slip (λ a b. find a b xs) x.sender x.number (Some x)
+find_push xs x e = fun_ext (λ a. fun_ext (λ b. go a b (same_name x.sender x.number a b) refl))
   where
-    go : (a b : ℕ) (t : Bool) → same x.sender x.number a b ≡ t → find a b (xs ++ x ∷ []) ≡ put2 (λ a b. find a b xs) x.sender x.number (Some x) a b
+    go : (a b : ℕ) (t : Bool) → same_name x.sender x.number a b ≡ t → find a b (xs ++ x ∷ []) ≡ put_slip (λ a b. find a b xs) x.sender x.number (Some x) a b
     go a b true t =
-        let q = same_true x.sender x.number a b t in
-        rw (t, q.0, q.1) (find_append x.sender x.number xs (x ∷ []) ∙ rw (e, same_refl x.sender x.number))
+        let q = same_name_true x.sender x.number a b t in
+        rw (t, q.0, q.1) (find_append x.sender x.number xs (x ∷ []) ∙ rw (e, same_name_refl x.sender x.number))
     go a b false t =
         rw t (find_append a b xs (x ∷ []) ∙ grind (arith, nat_tests))
 
-pub find_less : (xs : List Slip) (p q : ℕ) → Distinct xs → (λ (a b : ℕ). find a b (without p q xs)) ≡ put2 (λ a b. find a b xs) p q None
+pub find_less : (xs : List Slip) (p q : ℕ) → Distinct xs → (λ (a b : ℕ). find a b (without p q xs)) ≡ put_slip (λ a b. find a b xs) p q None
 find_less xs p q d = fun_ext (λ a. fun_ext (λ b. find_without p q a b xs d))
 
 pub none_yet : (n : ℕ) (p : PlainHouse) (a b : ℕ) → Fine n p → b ≡ get_or p.posted a 0 + 1 → find a b p.under_way ≡ None

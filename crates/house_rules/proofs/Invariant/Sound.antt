@@ -1,4 +1,4 @@
--- The invariant: what holds of the hall, the cut and the outstanding number after every history.
+-- The invariant: what holds of the cells, the cut and the outstanding number after every history.
 use Rattle.std.proofs.Common.{◌≡◌, ℕ, zero, suc, ◌+◌, ◌*◌, ◌/◌, ◌%◌, ◌<◌, ◌≤◌, Bool, true, false, not, eqb, List, [], map, length, get_or, ℤ, pos, Some, sym, refl, ap, ◌∙◌, arith}
 use Rattle.std.proofs.lemmas.Bool.{eqb-true, eqb-false}
 use Rattle.std.specs.List.{AllByRecursion}
@@ -11,10 +11,10 @@ use Rattle.house_rules.specs.declared.slip.Slip.{Slip}
 use Rattle.house_rules.specs.Theorem.Cut.{Cut}
 use Rattle.house_rules.specs.State.Names.{find, slips_of}
 use Rattle.house_rules.specs.Theorem.PlainHouse.{Event, blank}
-use Rattle.house_rules.specs.State.House.{Hall, at}
+use Rattle.house_rules.specs.State.House.{Cells, station_at}
 use Rattle.house_rules.proofs.Invariant.Deficits.{Balance}
 use Rattle.house_rules.proofs.Invariant.Colours.{Colouring}
-use Rattle.house_rules.proofs.Invariant.Halls.{hall_view, Shape}
+use Rattle.house_rules.proofs.Invariant.Cells.{cells_view, Shape}
 use Rattle.house_rules.proofs.Invariant.Names.{Naming}
 use Rattle.house_rules.proofs.Invariant.PlainSteps.{plain_view}
 use Rattle.house_rules.proofs.Invariant.Cut.{Split}
@@ -25,7 +25,7 @@ abbrev pub start_view : ℕ → View
 start_view n = plain_view (blank n)
 
 -- in every phase: names are in order, the cut knows posted numbers and receivers, and the plain run of all events so far
--- holds what the hall holds
+-- holds what the cells hold
 pub record Common (n : ℕ) (r : Rule) (all : List Event) (sent : ℕ → ℕ) (goes : ℕ → ℕ → ℕ) (v : View) (tray late : List Slip) : Type 0 where
   pub naming : Naming n v.posted tray late
   pub sent_is : (s : ℕ) → sent s ≡ v.posted s
@@ -45,14 +45,14 @@ pub record Between (n : ℕ) (C : ℕ → Colour) (R : ℕ → ℤ) (tray : List
 abbrev pub Tree : ℕ → (ℕ → Bool) → (ℕ → Bool) → Type 0
 Tree n G turned = (s : ℕ) → s < n → G s ≡ true → (turned s ≡ true) × (2 * s + 1 < n → G (2 * s + 1) ≡ true) × (2 * s + 2 < n → G (2 * s + 2) ≡ true)
 
--- while a count is open: colours, both parts of the cut, deficits and marks agree with the hall, and what is new was posted
-pub record During (r : Rule) (c : Cut) (h : Hall) (out : ℕ) : Type 0 where
+-- while a count is open: colours, both parts of the cut, deficits and marks agree with the cells, and what is new was posted
+pub record During (r : Rule) (c : Cut) (h : Cells) (out : ℕ) : Type 0 where
   pub base : Colour
-  pub colouring : Colouring h.n base (λ s. (at h s).turned) (λ s. (at h s).colour) h.tray (slips_of h.late) c.turned c.new
-  pub split : Split h.n r (start_view h.n) (λ s. get_or h.recorded s []) (hall_view h) (slips_of h.late) c.turned c.new c.before c.after
-  pub balance : Balance h.n (λ s. (at h s).running) (λ s. (at h s).frozen) (λ s. (at h s).unreported) (at h 0).gathered out (count (λ a b. not (c.new a b)) h.tray) (count c.new h.tray) (length h.late) c.turned
-  pub tree : Tree h.n (λ s. (at h s).gathered) c.turned
-  pub given : (a b : ℕ) → c.new a b ≡ true → b ≤ (at h a).posted
+  pub colouring : Colouring h.n base (λ s. (station_at h s).turned) (λ s. (station_at h s).colour) h.tray (slips_of h.late) c.turned c.new
+  pub split : Split h.n r (start_view h.n) (λ s. get_or h.recorded s []) (cells_view h) (slips_of h.late) c.turned c.new c.before c.after
+  pub balance : Balance h.n (λ s. (station_at h s).running) (λ s. (station_at h s).frozen) (λ s. (station_at h s).unreported) (station_at h 0).gathered out (count (λ a b. not (c.new a b)) h.tray) (count c.new h.tray) (length h.late) c.turned
+  pub tree : Tree h.n (λ s. (station_at h s).gathered) c.turned
+  pub given : (a b : ℕ) → c.new a b ≡ true → b ≤ (station_at h a).posted
 
 -- one thing between counts, another while a count is open
 abbrev pub ByPhase : Phase → Type 0 → Type 0 → Type 0
@@ -60,10 +60,10 @@ ByPhase Ready A B = A
 ByPhase Counting A B = B
 ByPhase Closed A B = A
 
-pub record Sound (r : Rule) (c : Cut) (p : Phase) (h : Hall) (out : ℕ) : Type 0 where
+pub record Sound (r : Rule) (c : Cut) (p : Phase) (h : Cells) (out : ℕ) : Type 0 where
   pub shape : Shape h
-  pub common : Common h.n r c.all c.posted c.receiver (hall_view h) (slips_of h.tray) (slips_of h.late)
-  pub state : ByPhase p (Between h.n (λ s. (at h s).colour) (λ s. (at h s).running) h.tray) (During r c h out)
+  pub common : Common h.n r c.all c.posted c.receiver (cells_view h) (slips_of h.tray) (slips_of h.late)
+  pub state : ByPhase p (Between h.n (λ s. (station_at h s).colour) (λ s. (station_at h s).running) h.tray) (During r c h out)
 
 -- The gathered stations
 

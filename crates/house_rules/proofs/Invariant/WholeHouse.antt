@@ -1,4 +1,4 @@
--- The invariant of a whole house: that of its hall, room in tray and late list, and its method in step with the count.
+-- The invariant of a whole house: that of its cells, room in tray and late list, and its method in step with the count.
 use Rattle.std.proofs.Common.{◌≡◌, ℕ, suc, ◌<◌, ◌≤◌, Bool, true, false, cond, ◌&&◌, List, [], ◌∷◌, length, get_or, set, sym, ap, ◌∙◌, arith}
 use Rattle.sections.specs.Rule.{Rule}
 use Rattle.methods.specs.Model.{Model}
@@ -7,34 +7,34 @@ use Rattle.house_rules.specs.declared.slip.ColouredSlip.{ColouredSlip}
 use Rattle.house_rules.specs.declared.station.Station.{Station}
 use Rattle.house_rules.specs.Theorem.Cut.{Cut}
 use Rattle.house_rules.specs.State.Names.{named, without_coloured}
-use Rattle.house_rules.specs.State.House.{Hall, House, fresh, at, is_counting}
-use Rattle.house_rules.proofs.Invariant.Halls.{field_kept}
+use Rattle.house_rules.specs.State.House.{Cells, HouseState, fresh, station_at, is_counting}
+use Rattle.house_rules.proofs.Invariant.Cells.{field_kept}
 use Rattle.house_rules.proofs.Invariant.Sound.{Sound}
 
 -- tray and late list are within their cells
-pub record Room (h : Hall) : Type 0 where
+pub record Room (h : Cells) : Type 0 where
   pub tray_cells_lem : h.tray_cells ≤ 4096
   pub late_cells_lem : h.late_cells ≤ 4096
   pub tray : length h.tray ≤ h.tray_cells
   pub late : length h.late ≤ h.late_cells
 
 -- the method has begun for the open count
-abbrev pub begun? : Phase → Hall → Bool
-begun? p h = is_counting p && (at h 0).gathered
+abbrev pub begun? : Phase → Cells → Bool
+begun? p h = is_counting p && (station_at h 0).gathered
 
 -- the method is in a state of its kind; it is idle unless it has begun, and then it counts the stations of the house
-pub record Served (m : Model) (p : Phase) (h : Hall) (q : m.State) : Type 0 where
+pub record Served (m : Model) (p : Phase) (h : Cells) (q : m.State) : Type 0 where
   pub valid : m.Valid q
   pub idle : begun? p h ≡ false → m.rules.outstanding q ≡ 0
   pub counted : begun? p h ≡ true → m.rules.stations q ≡ h.n
 
-pub record Holds (m : Model) (rule : Rule) (c : Cut) (x : House m.State) : Type 0 where
-  pub sound : Sound rule c x.phase x.hall (m.rules.outstanding x.method)
-  pub room : Room x.hall
-  pub served : Served m x.phase x.hall x.method
+pub record Holds (m : Model) (rule : Rule) (c : Cut) (x : HouseState m.State) : Type 0 where
+  pub sound : Sound rule c x.phase x.cells (m.rules.outstanding x.method)
+  pub room : Room x.cells
+  pub served : Served m x.phase x.cells x.method
 
 -- the method serves on where its begin is not concerned
-pub served_on : (m : Model) (p p' : Phase) (h h' : Hall) (q : m.State) → begun? p' h' ≡ begun? p h → h'.n ≡ h.n → Served m p h q → Served m p' h' q
+pub served_on : (m : Model) (p p' : Phase) (h h' : Cells) (q : m.State) → begun? p' h' ≡ begun? p h → h'.n ≡ h.n → Served m p h q → Served m p' h' q
 served_on m p p' h h' q e n s = record { valid = s.valid; idle = λ i. s.idle (sym e ∙ i); counted = λ i. s.counted (sym e ∙ i) ∙ sym n }
 
 pub length-less : (a b : ℕ) (xs : List ColouredSlip) → length (without_coloured a b xs) ≤ length xs
@@ -46,5 +46,5 @@ length-less a b (x ∷ xs) = let ih = length-less a b xs in go (named a b x.slip
     go false ih = omega arith
 
 -- the mark of the root stays where one station changes and keeps its own
-pub root_kept : (h : Hall) (s : ℕ) (st : Station) → s < length h.stations → st.gathered ≡ (at h s).gathered → (get_or (set h.stations s st) 0 fresh).gathered ≡ (at h 0).gathered
+pub root_kept : (h : Cells) (s : ℕ) (st : Station) → s < length h.stations → st.gathered ≡ (station_at h s).gathered → (get_or (set h.stations s st) 0 fresh).gathered ≡ (station_at h 0).gathered
 root_kept h s st l e = ap (λ f. f 0) (field_kept (λ t. t.gathered) h.stations s st l e)

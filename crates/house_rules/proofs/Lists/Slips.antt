@@ -6,13 +6,13 @@ use Rattle.std.proofs.lemmas.Bool.Decides.{nat_tests}
 use Rattle.std.specs.List.{AllByRecursion}
 use Rattle.std.specs.List.Sorted.{IsPermutation}
 use Rattle.house_rules.specs.declared.slip.Slip.{Slip}
-use Rattle.house_rules.specs.State.Names.{same, named, find, without}
+use Rattle.house_rules.specs.State.Names.{same_name, named, find, without, first_where}
 
-pub same_refl : (a b : ℕ) → same a b a b ≡ true
-same_refl a b = and_from _ _ (eq-eqb a a refl) (eq-eqb b b refl)
+pub same_name_refl : (a b : ℕ) → same_name a b a b ≡ true
+same_name_refl a b = and_from _ _ (eq-eqb a a refl) (eq-eqb b b refl)
 
-pub same_true : (a b x y : ℕ) → same a b x y ≡ true → (x ≡ a) × (y ≡ b)
-same_true a b x y e = let p = and_parts (eqb x a) (eqb y b) e in (eqb-true x a p.0, eqb-true y b p.1)
+pub same_name_true : (a b x y : ℕ) → same_name a b x y ≡ true → (x ≡ a) × (y ≡ b)
+same_name_true a b x y e = let p = and_parts (eqb x a) (eqb y b) e in (eqb-true x a p.0, eqb-true y b p.1)
 
 abbrev pub or_else : {X : Type 0} → Option X → Option X → Option X
 or_else None o = o
@@ -26,12 +26,12 @@ pub find_named : (a b : ℕ) (xs : List Slip) (n : Slip) → find a b xs ≡ Som
 find_named a b [] n e = grind arith
 find_named a b (x ∷ xs) n e = let ih = find_named a b xs n in grind (arith, nat_tests)
 
-pub find_all : (P : Slip → Type 0) (a b : ℕ) (xs : List Slip) (n : Slip) → AllByRecursion P xs → find a b xs ≡ Some n → P n
-find_all P a b [] n h e = let z : ◌≡◌ {A = ℕ} 0 1 = cc in absurd (omega arith)
-find_all P a b (x ∷ xs) n h e = go (named a b x) refl (find_all P a b xs n h.1)
+pub first_all : {X : Type 0} (P : X → Type 0) (p : X → Bool) (xs : List X) (x : X) → AllByRecursion P xs → first_where p xs ≡ Some x → P x
+first_all P p [] x h e = let z : ◌≡◌ {A = ℕ} 0 1 = cc in absurd (omega arith)
+first_all P p (y ∷ ys) x h e = go (p y) refl (first_all P p ys x h.1)
   where
-    go : (t : Bool) → named a b x ≡ t → (find a b xs ≡ Some n → P n) → P n
-    go true t ih = let s : x ≡ n = cc in subst P s h.0
+    go : (t : Bool) → p y ≡ t → (first_where p ys ≡ Some x → P x) → P x
+    go true t ih = let s : y ≡ x = cc in subst P s h.0
     go false t ih = ih (cc)
 
 pub without_none : (a b : ℕ) (xs : List Slip) → find a b xs ≡ None → without a b xs ≡ xs
@@ -43,14 +43,14 @@ abbrev pub Distinct : List Slip → Type 0
 Distinct [] = Unit {0}
 Distinct (x ∷ xs) = (find x.sender x.number xs ≡ None) × Distinct xs
 
-pub find_without : (a b x y : ℕ) (xs : List Slip) → Distinct xs → find x y (without a b xs) ≡ cond (same a b x y) None (find x y xs)
+pub find_without : (a b x y : ℕ) (xs : List Slip) → Distinct xs → find x y (without a b xs) ≡ cond (same_name a b x y) None (find x y xs)
 find_without a b x y [] d = grind arith
-find_without a b x y (n ∷ xs) d = go (named a b n) refl (same a b x y) refl (find_without a b x y xs d.1)
+find_without a b x y (n ∷ xs) d = go (named a b n) refl (same_name a b x y) refl (find_without a b x y xs d.1)
   where
-    go : (t : Bool) → named a b n ≡ t → (u : Bool) → same a b x y ≡ u → find x y (without a b xs) ≡ cond (same a b x y) None (find x y xs) → find x y (cond (named a b n) xs (n ∷ without a b xs)) ≡ cond (same a b x y) None (find x y (n ∷ xs))
+    go : (t : Bool) → named a b n ≡ t → (u : Bool) → same_name a b x y ≡ u → find x y (without a b xs) ≡ cond (same_name a b x y) None (find x y xs) → find x y (cond (named a b n) xs (n ∷ without a b xs)) ≡ cond (same_name a b x y) None (find x y (n ∷ xs))
     go true t true u ih =
-        let p = same_true a b n.sender n.number t in
-        let q = same_true a b x y u in
+        let p = same_name_true a b n.sender n.number t in
+        let q = same_name_true a b x y u in
         rw (t, u) (subst (λ k. find x k xs ≡ None) (sym q.1) (subst (λ k. find k b xs ≡ None) (sym q.0) (subst (λ k. find k b xs ≡ None) p.0 (subst (λ k. find n.sender k xs ≡ None) p.1 d.0))))
     go true t false u ih = grind (arith, nat_tests)
     go false t true u ih = grind (arith, nat_tests)
@@ -89,12 +89,12 @@ pub shuffled_from_find : (xs ys : List Slip) → Distinct xs → Distinct ys →
 shuffled_from_find [] [] d e h = IsPermutation-refl []
 shuffled_from_find [] (y ∷ ys) d e h =
     let f = h y.sender y.number in
-    let s = same_refl y.sender y.number in
+    let s = same_name_refl y.sender y.number in
     let z : ◌≡◌ {A = ℕ} 0 1 = grind arith in absurd (omega arith)
 shuffled_from_find (x ∷ xs) ys d e h =
     let a = x.sender in
     let b = x.number in
-    let s = same_refl a b in
+    let s = same_name_refl a b in
     let f : find a b ys ≡ Some x = sym (h a b) ∙ simp s in
     IsPermutation-trans _ _ _
     (IsPermutation-cons x _ _ (shuffled_from_find xs (without a b ys) d.1 (distinct_without a b ys e) (λ p q. rest p q (h p q))))
@@ -103,10 +103,10 @@ shuffled_from_find (x ∷ xs) ys d e h =
     rest : (p q : ℕ) → find p q (x ∷ xs) ≡ find p q ys → find p q xs ≡ find p q (without x.sender x.number ys)
     rest p q k =
         let w = find_without x.sender x.number p q ys e in
-        go (same x.sender x.number p q) refl w
+        go (same_name x.sender x.number p q) refl w
       where
-        go : (t : Bool) → same x.sender x.number p q ≡ t → find p q (without x.sender x.number ys) ≡ cond (same x.sender x.number p q) None (find p q ys) → find p q xs ≡ find p q (without x.sender x.number ys)
+        go : (t : Bool) → same_name x.sender x.number p q ≡ t → find p q (without x.sender x.number ys) ≡ cond (same_name x.sender x.number p q) None (find p q ys) → find p q xs ≡ find p q (without x.sender x.number ys)
         go true t w =
-            let n = same_true x.sender x.number p q t in
+            let n = same_name_true x.sender x.number p q t in
             rw (w, t) (subst (λ k. find p k xs ≡ None) (sym n.1) (subst (λ k. find k x.number xs ≡ None) (sym n.0) d.0))
         go false t w = rw (w, t) (let m : named p q x ≡ false = grind (arith, nat_tests) in cc)

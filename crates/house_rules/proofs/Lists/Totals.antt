@@ -6,8 +6,8 @@ use Rattle.std.specs.List.{AllByRecursion}
 use Rattle.house_rules.specs.declared.slip.ColouredSlip.{ColouredSlip}
 use Rattle.house_rules.specs.declared.slip.Slip.{Slip}
 use Rattle.house_rules.specs.Theorem.Cut.{put}
-use Rattle.house_rules.specs.State.Names.{same, named, find, without_coloured, slips_of}
-use Rattle.house_rules.proofs.Lists.Slips.{same_true}
+use Rattle.house_rules.specs.State.Names.{same_name, named, find, without_coloured, slips_of}
+use Rattle.house_rules.proofs.Lists.Slips.{same_name_true}
 use Rattle.house_rules.proofs.Invariant.PlainHouse.{put_other}
 
 -- over stations 0 to n - 1
@@ -95,10 +95,10 @@ pub count_push : (p : ℕ → ℕ → Bool) (xs : List ColouredSlip) (x : Colour
 count_push p [] x = omega arith
 count_push p (y ∷ ys) x = let ih = count_push p ys x in omega arith
 
-pub count_agree : (p q : ℕ → ℕ → Bool) (a b : ℕ) (xs : List ColouredSlip) → ((x y : ℕ) → same a b x y ≡ false → p x y ≡ q x y) → find a b (slips_of xs) ≡ None → count p xs ≡ count q xs
+pub count_agree : (p q : ℕ → ℕ → Bool) (a b : ℕ) (xs : List ColouredSlip) → ((x y : ℕ) → same_name a b x y ≡ false → p x y ≡ q x y) → find a b (slips_of xs) ≡ None → count p xs ≡ count q xs
 count_agree p q a b [] h e = refl
 count_agree p q a b (x ∷ xs) h e =
-    let k : same a b x.slip.sender x.slip.number ≡ false = grind arith in
+    let k : same_name a b x.slip.sender x.slip.number ≡ false = grind arith in
     let f : find a b (slips_of xs) ≡ None = grind arith in
     let ih = count_agree p q a b xs h f in
     let g = h x.slip.sender x.slip.number k in
@@ -109,7 +109,7 @@ count_less p a b x [] e = let z : ◌≡◌ {A = ℕ} 0 1 = cc in absurd (omega 
 count_less p a b x (y ∷ ys) e = go (named a b y.slip) refl (count_less p a b x ys)
   where
     go : (t : Bool) → named a b y.slip ≡ t → (find a b (slips_of ys) ≡ Some x → count p ys ≡ count p (without_coloured a b ys) + cond (p a b) 1 0) → cond (p y.slip.sender y.slip.number) 1 0 + count p ys ≡ count p (cond (named a b y.slip) ys (y ∷ without_coloured a b ys)) + cond (p a b) 1 0
-    go true t ih = let q = same_true a b y.slip.sender y.slip.number t in rw (t, q.0, q.1) (omega arith)
+    go true t ih = let q = same_name_true a b y.slip.sender y.slip.number t in rw (t, q.0, q.1) (omega arith)
     go false t ih = let i = ih (cc) in rw t (omega arith)
 
 pub count_both : (p : ℕ → ℕ → Bool) (xs : List ColouredSlip) → count p xs + count (λ a b. not (p a b)) xs ≡ count (λ a b. true) xs

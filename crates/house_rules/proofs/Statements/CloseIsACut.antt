@@ -16,16 +16,16 @@ use Rattle.common.specs.Sums.{sum_of}
 use Rattle.sections.specs.Sums.{line_sum}
 use Rattle.house_rules.specs.Calls.CountText.{on_slip, score}
 use Rattle.house_rules.specs.Theorem.Cut.{Cut}
-use Rattle.house_rules.specs.State.Names.{find, slips_of}
+use Rattle.house_rules.specs.State.Names.{find, slips_of, named}
 use Rattle.house_rules.specs.Theorem.PlainHouse.{PlainHouse, blank}
-use Rattle.house_rules.specs.State.House.{Hall, at}
+use Rattle.house_rules.specs.State.House.{Cells, station_at}
 use Rattle.house_rules.specs.Theorem.Statements.{Consistent, gain_of}
 use Rattle.house_rules.proofs.Invariant.Colours.{shade}
-use Rattle.house_rules.proofs.Invariant.Halls.{hall_view}
+use Rattle.house_rules.proofs.Invariant.Cells.{cells_view}
 use Rattle.house_rules.proofs.Invariant.Names.{not_found}
 use Rattle.house_rules.proofs.Invariant.Parts.{start_numbered}
 use Rattle.house_rules.proofs.Invariant.PlainSteps.{plain_view, Fine, Plays, plays_run, plays_refuses_none, plays_both, held, plays_all}
-use Rattle.house_rules.proofs.Lists.Slips.{or_else, find_named, find_all, shuffled_from_find}
+use Rattle.house_rules.proofs.Lists.Slips.{or_else, find_named, first_all, shuffled_from_find}
 use Rattle.house_rules.proofs.Invariant.Sound.{During, Sound, all_turned}
 use Rattle.house_rules.proofs.Invariant.Cut.{pending}
 use Rattle.house_rules.proofs.Lists.Sums.{sum_shuffled, sum_blank}
@@ -47,12 +47,12 @@ all_new base new (x ∷ xs) h k =
     let e : new x.slip.sender x.slip.number ≡ true = not-false (new x.slip.sender x.slip.number) k.0 in
     (h.0 ∙ ap (shade base) e, all_new base new xs h.1 k.1)
 
-module _ (r : Rule) (c : Cut) (p : Phase) (h : Hall) (out : ℕ) (so : Sound r c p h out) (k : During r c h out) (root : (at h 0).gathered ≡ true) where
-  pub owed : out ≡ (count (λ a b. not (c.new a b)) h.tray + sum_n (λ s. (at h s).unreported) h.n)
+module _ (r : Rule) (c : Cut) (p : Phase) (h : Cells) (out : ℕ) (so : Sound r c p h out) (k : During r c h out) (root : (station_at h 0).gathered ≡ true) where
+  pub owed : out ≡ (count (λ a b. not (c.new a b)) h.tray + sum_n (λ s. (station_at h s).unreported) h.n)
   owed = let a = k.balance.asked in rw root at a
 
   pub every : (s : ℕ) → s < h.n → c.turned s ≡ true
-  every = all_turned h.n (λ s. (at h s).gathered) c.turned k.tree root
+  every = all_turned h.n (λ s. (station_at h s).gathered) c.turned k.tree root
 
   module _ (none_out : out ≡ 0) where
     pub no_olds : count (λ a b. not (c.new a b)) h.tray ≡ 0
@@ -72,7 +72,7 @@ module _ (r : Rule) (c : Cut) (p : Phase) (h : Hall) (out : ℕ) (so : Sound r c
                 coloured = λ s l. k.colouring.coloured s l ∙ ap (shade k.base) (every s l);
                 slips = all_new k.base c.new h.tray k.colouring.slips none_old;
                 running =
-                    let g : sum_z (λ s. cond (c.turned s) (at h s).running (pos 0)) h.n ≡ sum_z (λ s. (at h s).running) h.n = sum_z_same _ _ h.n (λ s l. rw (every s l)) in
+                    let g : sum_z (λ s. cond (c.turned s) (station_at h s).running (pos 0)) h.n ≡ sum_z (λ s. (station_at h s).running) h.n = sum_z_same _ _ h.n (λ s l. rw (every s l)) in
                     let b = count_both c.new h.tray in
                     let o = no_olds in
                     sym g ∙ k.balance.running ∙ ap pos (omega arith);
@@ -91,7 +91,7 @@ module _ (r : Rule) (c : Cut) (p : Phase) (h : Hall) (out : ℕ) (so : Sound r c
           where
             bad : (x : Slip) → find a b (slips_of h.tray) ≡ Some x → ⊥
             bad x f =
-                let p = find_all (λ (y : Slip). not (c.new y.sender y.number) ≡ false) a b (slips_of h.tray) x (All-map (λ (y : Slip). not (c.new y.sender y.number) ≡ false) (λ (y : ColouredSlip). y.slip) h.tray none_old) f in
+                let p = first_all (λ (y : Slip). not (c.new y.sender y.number) ≡ false) (named a b) (slips_of h.tray) x (All-map (λ (y : Slip). not (c.new y.sender y.number) ≡ false) (λ (y : ColouredSlip). y.slip) h.tray none_old) f in
                 let q = find_named a b (slips_of h.tray) x f in
                 let p' : not (c.new a b) ≡ false = rw (q.0, q.1) at p in
                 let z : ◌≡◌ {A = ℕ} 0 1 = cc in omega arith
@@ -102,9 +102,9 @@ module _ (r : Rule) (c : Cut) (p : Phase) (h : Hall) (out : ℕ) (so : Sound r c
         let one = plays_all h.n r k.split.dpre (blank h.n) k.split.x (fine_blank h.n) k.split.before in
         (one.0, subst (λ es. Plays r (blank h.n) es one.0) k.split.is_pre one.1, one.2, one.3, λ line short. subst (λ es. held line one.0 ≡ held line (blank h.n) +ℤ sum_of (gain_of r line) es) k.split.is_pre (one.4 line short))
 
-    second : (q : PlainHouse) × Plays r first.0 c.after q × (plain_view q ≡ hall_view h) × Fine h.n q
+    second : (q : PlainHouse) × Plays r first.0 c.after q × (plain_view q ≡ cells_view h) × Fine h.n q
     second =
-        let two = plays_all h.n r k.split.dpost first.0 (hall_view h) first.3 (subst (λ v. Acted h.n r v k.split.dpost (hall_view h)) (sym first.2) k.split.rest) in
+        let two = plays_all h.n r k.split.dpost first.0 (cells_view h) first.3 (subst (λ v. Acted h.n r v k.split.dpost (cells_view h)) (sym first.2) k.split.rest) in
         (two.0, subst (λ es. Plays r first.0 es two.0) k.split.is_post two.1, two.2, two.3)
 
     first_sheets : first.0.sheets ≡ h.recorded

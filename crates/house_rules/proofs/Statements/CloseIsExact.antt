@@ -14,19 +14,19 @@ use Rattle.house_rules.specs.declared.slip.Slip.{Slip}
 use Rattle.house_rules.specs.Calls.EveryCall.{Call, Answer, house_questions, method_questions, questions, after, reply, close}
 use Rattle.house_rules.specs.Calls.Close.{close_questions}
 use Rattle.house_rules.specs.Theorem.Cut.{Cut, no_cut, cut_after, cut_of}
-use Rattle.house_rules.specs.Calls.Make.{made_hall}
+use Rattle.house_rules.specs.Calls.Make.{Handed, made_cells}
 use Rattle.house_rules.specs.State.Names.{slips_of}
 use Rattle.house_rules.specs.Theorem.Progress.{Progress, no_progress, progress_after, progress_after_all, progress_of, Complete}
-use Rattle.house_rules.specs.Theorem.Histories.{outcome, step, next, run, only_done, accepted, is_done, History, past}
-use Rattle.house_rules.specs.State.House.{Hall, House, fresh, at, is_counting}
+use Rattle.house_rules.specs.Theorem.Histories.{outcome, step, next, run, only_done, granted_among, is_done, History, granted_calls}
+use Rattle.house_rules.specs.State.House.{Cells, HouseState, fresh, station_at, is_counting}
 use Rattle.house_rules.specs.Theorem.Statements.{CloseIsExact}
 use Rattle.common.proofs.AllYes.{all_yes_lem, no_first, yes_parts}
 use Rattle.house_rules.proofs.Statements.CloseIsACut.{owed, none_old}
-use Rattle.house_rules.proofs.Statements.CountsAreConsistent.{accepted_holds, made_yes, made_holds, history_holds}
+use Rattle.house_rules.proofs.Statements.CountsAreConsistent.{granted_holds, made_yes, made_holds, history_holds}
 use Rattle.house_rules.proofs.Invariant.WholeHouse.{Holds}
 use Rattle.house_rules.proofs.Invariant.Phases.{is_counting_lem}
 use Rattle.house_rules.proofs.Statements.HouseIsItsPlainRun.{history_ordered}
-use Rattle.house_rules.proofs.Statements.Progress.{Kept, accepted_kept}
+use Rattle.house_rules.proofs.Statements.Progress.{Kept, granted_kept}
 use Rattle.house_rules.proofs.Invariant.Sound.{Sound, all_gathered}
 use Rattle.house_rules.proofs.Lists.Sums.{get_or-same}
 use Rattle.house_rules.proofs.Lists.Totals.{sum_n, sum_n_zero, sum_n_none, count, count_none}
@@ -35,25 +35,25 @@ use Rattle.house_rules.proofs.Statements.MethodIsAskedRightly.{house_decides}
 use Rattle.methods.specs.Model as models
 
 module _ (m : Model) (ml : models.Lawful m) (rule : Rule) where
-  run_kept : (calls : List Call) (c : Cut) (g : Progress) (x : House m.State) → Holds m rule c x → Kept g x.phase x.hall → Kept (progress_after_all c g (accepted m rule x calls)) (run m rule x calls).phase (run m rule x calls).hall
+  run_kept : (calls : List Call) (c : Cut) (g : Progress) (x : HouseState m.State) → Holds m rule c x → Kept g x.phase x.cells → Kept (progress_after_all c g (granted_among m rule x calls)) (run m rule x calls).phase (run m rule x calls).cells
   run_kept [] c g x k kept = kept
   run_kept (call ∷ calls) c g x k kept = go (first_no (questions m rule x call)) refl (λ c' g' x' k' kept'. run_kept calls c' g' x' k' kept')
     where
-      go : (o : Option (ℕ × ℕ × ℕ)) → first_no (questions m rule x call) ≡ o → ((c' : Cut) (g' : Progress) (x' : House m.State) → Holds m rule c' x' → Kept g' x'.phase x'.hall → Kept (progress_after_all c' g' (accepted m rule x' calls)) (run m rule x' calls).phase (run m rule x' calls).hall) → Kept (progress_after_all c g (only_done (outcome o (after m rule x call) (reply m x call)) call (accepted m rule (next x (outcome o (after m rule x call) (reply m x call))) calls))) (run m rule (next x (outcome o (after m rule x call) (reply m x call))) calls).phase (run m rule (next x (outcome o (after m rule x call) (reply m x call))) calls).hall
+      go : (o : Option (ℕ × ℕ × ℕ)) → first_no (questions m rule x call) ≡ o → ((c' : Cut) (g' : Progress) (x' : HouseState m.State) → Holds m rule c' x' → Kept g' x'.phase x'.cells → Kept (progress_after_all c' g' (granted_among m rule x' calls)) (run m rule x' calls).phase (run m rule x' calls).cells) → Kept (progress_after_all c g (only_done (outcome o (after m rule x call) (reply m x call)) call (granted_among m rule (next x (outcome o (after m rule x call) (reply m x call))) calls))) (run m rule (next x (outcome o (after m rule x call) (reply m x call))) calls).phase (run m rule (next x (outcome o (after m rule x call) (reply m x call))) calls).cells
       go None e ih =
-          let y = yes_parts (house_questions rule x.phase x.hall (m.rules.outstanding x.method) call) (method_questions m x call) (all_yes_lem (questions m rule x call) e) in
-          ih (cut_after c call) (progress_after c g call) (after m rule x call) (accepted_holds m ml rule c x call k e) (accepted_kept m rule c g x k.sound kept call y.0)
+          let y = yes_parts (house_questions rule x.phase x.cells (m.rules.outstanding x.method) call) (method_questions m x call) (all_yes_lem (questions m rule x call) e) in
+          ih (cut_after c call) (progress_after c g call) (after m rule x call) (granted_holds m ml rule c x call k e) (granted_kept m rule c g x k.sound kept call y.0)
       go (Some code) e ih = ih c g x k kept
 
-made_kept : (n t l : ℕ) → Kept no_progress Ready (made_hall n t l)
-made_kept n t l = record { opened = refl; gathered = fun_ext (λ s. ap (λ u. u.gathered) (sym (get_or-same n fresh s))); late_takes = λ s. let e : (at (made_hall n t l) s).unreported ≡ 0 = ap (λ u. u.unreported) (get_or-same n fresh s) in omega arith }
+made_kept : (handed : Handed) → Kept no_progress Ready (made_cells handed)
+made_kept handed = record { opened = refl; gathered = fun_ext (λ s. ap (λ u. u.gathered) (sym (get_or-same handed.n fresh s))); late_takes = λ s. let e : (station_at (made_cells handed) s).unreported ≡ 0 = ap (λ u. u.unreported) (get_or-same handed.n fresh s) in omega arith }
 
-history_kept : (m : Model) → models.Lawful m → (rule : Rule) (x : House m.State) (history : History m rule x) → Kept (progress_of (past m rule x history)) x.phase x.hall
+history_kept : (m : Model) → models.Lawful m → (rule : Rule) (x : HouseState m.State) (history : History m rule x) → Kept (progress_of (granted_calls m rule x history)) x.phase x.cells
 history_kept m ml rule x history =
-    let g = made_yes m history.n history.sheets history.recorded history.tray_cells history.late_cells history.method history.first history.made in
-    let k = made_holds m rule history.n history.sheets history.recorded history.tray_cells history.late_cells history.method history.valid g.0 in
-    subst (λ (y : House m.State). Kept (progress_of (past m rule x history)) y.phase y.hall) history.leads
-    (run_kept m ml rule history.calls no_cut no_progress history.first (subst (λ y. Holds m rule no_cut y) (sym g.1) k) (subst (λ (y : House m.State). Kept no_progress y.phase y.hall) (sym g.1) (made_kept history.n history.tray_cells history.late_cells)))
+    let g = made_yes m history.handed history.method history.first history.made in
+    let k = made_holds m rule history.handed history.method history.valid g.0 in
+    subst (λ (y : HouseState m.State). Kept (progress_of (granted_calls m rule x history)) y.phase y.cells) history.leads
+    (run_kept m ml rule history.calls no_cut no_progress history.first (subst (λ y. Holds m rule no_cut y) (sym g.1) k) (subst (λ (y : HouseState m.State). Kept no_progress y.phase y.cells) (sym g.1) (made_kept history.handed)))
 
 -- the slips of a tray, without and with their colours
 all_plain : (P : Slip → Type 0) (xs : List ColouredSlip) → AllByRecursion (λ (x : ColouredSlip). P x.slip) xs → AllByRecursion P (slips_of xs)
@@ -64,24 +64,24 @@ plain_all : (P : Slip → Type 0) (xs : List ColouredSlip) → AllByRecursion P 
 plain_all P [] h = tt
 plain_all P (x ∷ xs) h = (h.0, plain_all P xs h.1)
 
-done_none : {Q : Type 0} (o : Option (ℕ × ℕ × ℕ)) (x : House Q) (a : Answer) → is_done (outcome o x a) ≡ true → o ≡ None
+done_none : {Q : Type 0} (o : Option (ℕ × ℕ × ℕ)) (x : HouseState Q) (a : Answer) → is_done (outcome o x a) ≡ true → o ≡ None
 done_none None x a e = refl
 done_none (Some code) x a e = absurd (true≢false (sym e))
 
 pub close_is_exact : (m : Model) → models.Lawful m → CloseIsExact m
 close_is_exact m ml rule x history = (
-  λ q. subst (λ xs. Complete x.hall.n (cut_of (past m rule x history)) (progress_of (past m rule x history)) xs) (sym (history_ordered m ml rule x history)) (there q),
-  λ z. back (subst (λ xs. Complete x.hall.n (cut_of (past m rule x history)) (progress_of (past m rule x history)) xs) (history_ordered m ml rule x history) z),
+  λ q. subst (λ xs. Complete x.cells.n (cut_of (granted_calls m rule x history)) (progress_of (granted_calls m rule x history)) xs) (sym (history_ordered m ml rule x history)) (there q),
+  λ z. back (subst (λ xs. Complete x.cells.n (cut_of (granted_calls m rule x history)) (progress_of (granted_calls m rule x history)) xs) (history_ordered m ml rule x history) z),
 )
   where
     c : Cut
-    c = cut_of (past m rule x history)
+    c = cut_of (granted_calls m rule x history)
 
     g : Progress
-    g = progress_of (past m rule x history)
+    g = progress_of (granted_calls m rule x history)
 
-    h : Hall
-    h = x.hall
+    h : Cells
+    h = x.cells
 
     p : Phase
     p = x.phase
@@ -105,12 +105,12 @@ close_is_exact m ml rule x history = (
         let co = during_of rule c p h out so ph in
         let o = owed rule c p h out so co y.1.0 in
         let zo = eqb-true out 0 y.1.1.0 in
-        let u : sum_n (λ s. (at h s).unreported) h.n ≡ 0 = omega arith in
+        let u : sum_n (λ s. (station_at h s).unreported) h.n ≡ 0 = omega arith in
         record {
           opened = k.opened ∙ y.0;
-          gathered = λ s lt. ap (λ f. f s) k.gathered ∙ all_gathered h.n (λ s. (at h s).gathered) c.turned co.tree y.1.0 (suc s) s (omega arith) lt;
+          gathered = λ s lt. ap (λ f. f s) k.gathered ∙ all_gathered h.n (λ s. (station_at h s).gathered) c.turned co.tree y.1.0 (suc s) s (omega arith) lt;
           arrived = all_plain (λ (z : Slip). c.new z.sender z.number ≡ true) h.tray (All-weaker _ _ (λ x e. not-false _ e) h.tray (none_old rule c p h out so co y.1.0 zo));
-          reported = λ s lt. let a = k.late_takes s in let b = sum_n_zero (λ s. (at h s).unreported) h.n u s lt in omega arith;
+          reported = λ s lt. let a = k.late_takes s in let b = sum_n_zero (λ s. (station_at h s).unreported) h.n u s lt in omega arith;
         }
 
     back : Complete h.n c g (slips_of h.tray) → is_done (step m rule x close) ≡ true
@@ -118,9 +118,9 @@ close_is_exact m ml rule x history = (
         let pc : is_counting p ≡ true = sym k.opened ∙ z.opened in
         let ph = is_counting_lem p pc in
         let co = during_of rule c p h out so ph in
-        let root : (at h 0).gathered ≡ true = ap (λ f. f 0) (sym k.gathered) ∙ z.gathered 0 so.shape.some' in
+        let root : (station_at h 0).gathered ≡ true = ap (λ f. f 0) (sym k.gathered) ∙ z.gathered 0 so.shape.some' in
         let o = owed rule c p h out so co root in
         let olds : count (λ a b. not (c.new a b)) h.tray ≡ 0 = count_none (λ a b. not (c.new a b)) h.tray (All-weaker _ _ (λ x e. ap not e) h.tray (plain_all (λ (y : Slip). c.new y.sender y.number ≡ true) h.tray z.arrived)) in
-        let us : sum_n (λ s. (at h s).unreported) h.n ≡ 0 = sum_n_none (λ s. (at h s).unreported) h.n (λ s lt. let a = k.late_takes s in let b = z.reported s lt in omega arith) in
+        let us : sum_n (λ s. (station_at h s).unreported) h.n ≡ 0 = sum_n_none (λ s. (station_at h s).unreported) h.n (λ s lt. let a = k.late_takes s in let b = z.reported s lt in omega arith) in
         let left : out ≡ 0 = omega arith in
         ap (λ q. is_done (outcome q (after m rule x close) (reply m x close))) (house_decides m rule c x holds close ∙ no_first (close_questions p h out) (pc, (root, (eq-eqb out 0 left, tt))))

@@ -9,22 +9,22 @@ use Rattle.house_rules.specs.declared.phase.Phase.{Phase}
 use Rattle.house_rules.specs.declared.slip.ColouredSlip.{ColouredSlip}
 use Rattle.house_rules.specs.declared.station.Station.{Station}
 use Rattle.house_rules.specs.Calls.EveryCall.{Call, Answer, house_questions, method_questions, questions, after, reply, enter, post, take, open', turn, gather, report, close, file, nothing, number, sum, sent, receipt, filed}
-use Rattle.house_rules.specs.State.Changes.{with_hall}
+use Rattle.house_rules.specs.State.Changes.{with_cells}
 use Rattle.house_rules.specs.Theorem.Cut.{Cut, put, no_cut, cut_after}
-use Rattle.house_rules.specs.Calls.Gather.{gather_questions, sum_at, gathered_station, gathered_hall, root_questions, root_gathers, after_gather}
-use Rattle.house_rules.specs.Calls.Make.{made_hall}
+use Rattle.house_rules.specs.Calls.Gather.{gather_questions, sum_at, gathered_station, gathered_cells, root_questions, root_gathers, after_gather}
+use Rattle.house_rules.specs.Calls.Make.{Handed, made_cells}
 use Rattle.house_rules.specs.Theorem.Messages.{MessagesAreFew}
-use Rattle.house_rules.specs.Calls.Open.{cleared_station, cleared, opened_hall}
+use Rattle.house_rules.specs.Calls.Open.{cleared_station, cleared, opened_cells}
 use Rattle.house_rules.specs.Calls.Post.{posted_station}
 use Rattle.house_rules.specs.Calls.Report.{reported_station}
 use Rattle.house_rules.specs.Theorem.Histories.{outcome, next, run, History}
-use Rattle.house_rules.specs.State.House.{Hall, House, fresh, at}
-use Rattle.house_rules.specs.Calls.Take.{is_late, turns_receiver, took_station, late_station, arrives, arrives_late, taken_hall, under_way}
+use Rattle.house_rules.specs.State.House.{Cells, HouseState, fresh, station_at}
+use Rattle.house_rules.specs.Calls.Take.{is_late, turns_receiver, took_station, late_station, arrives, arrives_late, taken_cells, under_way}
 use Rattle.house_rules.specs.Calls.Turn.{turned_station, turns}
 use Rattle.common.proofs.AllYes.{AllYes, all_yes_lem, yes_parts}
-use Rattle.house_rules.proofs.Invariant.Halls.{field_put, field_kept, find_coloured_lem}
+use Rattle.house_rules.proofs.Invariant.Cells.{field_put, field_kept, find_coloured_lem}
 use Rattle.house_rules.proofs.Calls.EveryCall.{can_begin, can_arrive}
-use Rattle.house_rules.proofs.Statements.CountsAreConsistent.{accepted_holds, made_yes, made_holds}
+use Rattle.house_rules.proofs.Statements.CountsAreConsistent.{granted_holds, made_yes, made_holds}
 use Rattle.house_rules.proofs.Invariant.WholeHouse.{Holds}
 use Rattle.house_rules.proofs.Calls.Outcome.{outcome_answer}
 use Rattle.house_rules.proofs.Calls.OpenGatherReportFile.{mapped}
@@ -37,7 +37,7 @@ use Rattle.methods.specs.Model as models
 abbrev Few : (n : ℕ) → List Station → (late messages : ℕ) → Type 0
 Few n ts late messages = messages + 1000 * sum_n (λ s. (get_or ts s fresh).unreported) n ≤ 1000 * (late + cond (get_or ts 0 fresh).gathered 1 0)
 
-abbrev FewIn : Hall → Type 0
+abbrev FewIn : Cells → Type 0
 FewIn h = Few h.n h.stations (length h.late) h.messages
 
 module _ (n : ℕ) (ts : List Station) (late messages : ℕ) (f : Few n ts late messages) (s : ℕ) (l : s < length ts) where
@@ -86,86 +86,86 @@ module _ (n : ℕ) (ts : List Station) (late messages : ℕ) (f : Few n ts late 
       subst (λ b. messages + 1000 * sum_n (λ t. (get_or (set ts s (gathered_station (get_or ts s fresh))) t fresh).unreported) n ≤ 1000 * (late + cond b 1 0)) (sym eg)
       (subst (λ w. messages + 1000 * sum_n w n ≤ 1000 * (late + cond (get_or ts 0 fresh).gathered 1 0)) (sym eu) f)
 
-taken_few : (p : Phase) (h : Hall) (x : ColouredSlip) → x.slip.receiver < h.n → length h.stations ≡ h.n → FewIn h → FewIn (cond (is_late p h x) (arrives_late h x) (arrives (cond (turns_receiver p h x) (turns h x.slip.receiver) h) x))
+taken_few : (p : Phase) (h : Cells) (x : ColouredSlip) → x.slip.receiver < h.n → length h.stations ≡ h.n → FewIn h → FewIn (cond (is_late p h x) (arrives_late h x) (arrives (cond (turns_receiver p h x) (turns h x.slip.receiver) h) x))
 taken_few p h x lt ln f = go (is_late p h x) (turns_receiver p h x)
   where
     l : x.slip.receiver < length h.stations
     l = rw ln lt
 
     go : (a b : Bool) → FewIn (cond a (arrives_late h x) (arrives (cond b (turns h x.slip.receiver) h) x))
-    go true b = subst (λ k. Few h.n (set h.stations x.slip.receiver (late_station (at h x.slip.receiver))) k h.messages) (sym (length_push h.late x)) (few_late h.n h.stations (length h.late) h.messages f x.slip.receiver l lt)
+    go true b = subst (λ k. Few h.n (set h.stations x.slip.receiver (late_station (station_at h x.slip.receiver))) k h.messages) (sym (length_push h.late x)) (few_late h.n h.stations (length h.late) h.messages f x.slip.receiver l lt)
     go false true =
-        let t = few_set h.n h.stations (length h.late) h.messages f x.slip.receiver l (turned_station (at h x.slip.receiver)) refl refl in
-        few_set h.n (set h.stations x.slip.receiver (turned_station (at h x.slip.receiver))) (length h.late) h.messages t x.slip.receiver (rw (length-set h.stations x.slip.receiver (turned_station (at h x.slip.receiver))) l) (took_station (at (turns h x.slip.receiver) x.slip.receiver)) refl refl
-    go false false = few_set h.n h.stations (length h.late) h.messages f x.slip.receiver l (took_station (at h x.slip.receiver)) refl refl
+        let t = few_set h.n h.stations (length h.late) h.messages f x.slip.receiver l (turned_station (station_at h x.slip.receiver)) refl refl in
+        few_set h.n (set h.stations x.slip.receiver (turned_station (station_at h x.slip.receiver))) (length h.late) h.messages t x.slip.receiver (rw (length-set h.stations x.slip.receiver (turned_station (station_at h x.slip.receiver))) l) (took_station (station_at (turns h x.slip.receiver) x.slip.receiver)) refl refl
+    go false false = few_set h.n h.stations (length h.late) h.messages f x.slip.receiver l (took_station (station_at h x.slip.receiver)) refl refl
 
-module _ (m : Model) (ml : models.Lawful m) (rule : Rule) (c : Cut) (x : House m.State) (k : Holds m rule c x) (f : FewIn x.hall) where
-  abbrev h : Hall
-  h = x.hall
+module _ (m : Model) (ml : models.Lawful m) (rule : Rule) (c : Cut) (x : HouseState m.State) (k : Holds m rule c x) (f : FewIn x.cells) where
+  abbrev h : Cells
+  h = x.cells
 
-  below : (s : ℕ) → s < x.hall.n → s < length x.hall.stations
+  below : (s : ℕ) → s < x.cells.n → s < length x.cells.stations
   below s lt = rw k.sound.shape.stations lt
 
-  begun_few : (s : ℕ) → eqb s 0 ≡ true → AllYes (root_questions m x s) → m.rules.begin_sent x.method x.hall.n (nat_abs (sum_at x.hall s)) ≤ 1000
-  begun_few s e y = ml.begun_few x.method x.hall.n (nat_abs (sum_at x.hall s)) (can_begin m ml rule c x k s e y)
+  begun_few : (s : ℕ) → eqb s 0 ≡ true → AllYes (root_questions m x s) → m.rules.begin_sent x.method x.cells.n (nat_abs (sum_at x.cells s)) ≤ 1000
+  begun_few s e y = ml.begun_few x.method x.cells.n (nat_abs (sum_at x.cells s)) (can_begin m ml rule c x k s e y)
 
-  gather_few : (s : ℕ) → AllYes (gather_questions x.phase x.hall s) → AllYes (root_questions m x s) → FewIn (after_gather m x s).hall
+  gather_few : (s : ℕ) → AllYes (gather_questions x.phase x.cells s) → AllYes (root_questions m x s) → FewIn (after_gather m x s).cells
   gather_few s y z = go (eqb s 0) refl
     where
-      l : s < length x.hall.stations
-      l = below s (ltb-true s x.hall.n y.0)
+      l : s < length x.cells.stations
+      l = below s (ltb-true s x.cells.n y.0)
 
-      go : (b : Bool) → eqb s 0 ≡ b → FewIn (cond b (root_gathers m x s) (with_hall x (gathered_hall x.hall s))).hall
-      go true e = few_root x.hall.n x.hall.stations (length x.hall.late) x.hall.messages f s l e (not-true _ y.1.1.1.0) (m.rules.begin_sent x.method x.hall.n (nat_abs (sum_at x.hall s))) (begun_few s e z)
-      go false e = few_other x.hall.n x.hall.stations (length x.hall.late) x.hall.messages f s l e
+      go : (b : Bool) → eqb s 0 ≡ b → FewIn (cond b (root_gathers m x s) (with_cells x (gathered_cells x.cells s))).cells
+      go true e = few_root x.cells.n x.cells.stations (length x.cells.late) x.cells.messages f s l e (not-true _ y.1.1.1.0) (m.rules.begin_sent x.method x.cells.n (nat_abs (sum_at x.cells s))) (begun_few s e z)
+      go false e = few_other x.cells.n x.cells.stations (length x.cells.late) x.cells.messages f s l e
 
-  take_few : (a b : ℕ) (o : Option ColouredSlip) → under_way x.hall a b ≡ o → FewIn (taken_hall x.phase x.hall o)
+  take_few : (a b : ℕ) (o : Option ColouredSlip) → under_way x.cells a b ≡ o → FewIn (taken_cells x.phase x.cells o)
   take_few a b None s = f
-  take_few a b (Some y) s = taken_few x.phase x.hall y (k.sound.common.naming.meant a b y.slip (find_coloured_lem a b x.hall.tray y s)) k.sound.shape.stations f
+  take_few a b (Some y) s = taken_few x.phase x.cells y (k.sound.common.naming.meant a b y.slip (find_coloured_lem a b x.cells.tray y s)) k.sound.shape.stations f
 
-  open_few : (s : ℕ) → s < x.hall.n → FewIn (opened_hall x.hall s)
+  open_few : (s : ℕ) → s < x.cells.n → FewIn (opened_cells x.cells s)
   open_few s lt =
-      let ls : s < length (map cleared_station x.hall.stations) = rw (length-map x.hall.stations cleared_station) (below s lt) in
-      let z = sum_n_none (λ t. (get_or (map cleared_station x.hall.stations) t fresh).unreported) x.hall.n (λ t _. ap (λ u. u.unreported) (mapped x.hall.stations t)) in
-      few_set x.hall.n (map cleared_station x.hall.stations) 0 0 (rw z (omega arith)) s ls (turned_station (at (cleared x.hall) s)) refl refl
+      let ls : s < length (map cleared_station x.cells.stations) = rw (length-map x.cells.stations cleared_station) (below s lt) in
+      let z = sum_n_none (λ t. (get_or (map cleared_station x.cells.stations) t fresh).unreported) x.cells.n (λ t _. ap (λ u. u.unreported) (mapped x.cells.stations t)) in
+      few_set x.cells.n (map cleared_station x.cells.stations) 0 0 (rw z (omega arith)) s ls (turned_station (station_at (cleared x.cells) s)) refl refl
 
-  accepted_few : (call : Call) → AllYes (house_questions rule x.phase x.hall (m.rules.outstanding x.method) call) → AllYes (method_questions m x call) → FewIn (after m rule x call).hall
-  accepted_few (enter s a b r) y z = f
-  accepted_few (post s to line amount) y z =
+  granted_few : (call : Call) → AllYes (house_questions rule x.phase x.cells (m.rules.outstanding x.method) call) → AllYes (method_questions m x call) → FewIn (after m rule x call).cells
+  granted_few (enter s a b r) y z = f
+  granted_few (post s to line amount) y z =
       let q = and_parts _ _ y.0 in
-      few_set h.n h.stations (length h.late) h.messages f s (below s (ltb-true s h.n q.0)) (posted_station (at h s)) refl refl
-  accepted_few (take a b) y z = take_few a b (under_way h a b) refl
-  accepted_few (open' s) y z = open_few s (ltb-true s h.n y.0)
-  accepted_few (turn s) y z = few_set h.n h.stations (length h.late) h.messages f s (below s (ltb-true s h.n y.0)) (turned_station (at h s)) refl refl
-  accepted_few (gather s) y z = gather_few s y z
-  accepted_few (report s) y z =
+      few_set h.n h.stations (length h.late) h.messages f s (below s (ltb-true s h.n q.0)) (posted_station (station_at h s)) refl refl
+  granted_few (take a b) y z = take_few a b (under_way h a b) refl
+  granted_few (open' s) y z = open_few s (ltb-true s h.n y.0)
+  granted_few (turn s) y z = few_set h.n h.stations (length h.late) h.messages f s (below s (ltb-true s h.n y.0)) (turned_station (station_at h s)) refl refl
+  granted_few (gather s) y z = gather_few s y z
+  granted_few (report s) y z =
       let lt = ltb-true s h.n y.0 in
-      few_report h.n h.stations (length h.late) h.messages f s (below s lt) lt (ltb-true 0 (at h s).unreported y.1.1.1.0) (m.rules.arrived_sent x.method s) (ml.arrived_few x.method s (can_arrive m ml rule c x k s z))
-  accepted_few close y z = f
-  accepted_few (file told text) y z = f
+      few_report h.n h.stations (length h.late) h.messages f s (below s lt) lt (ltb-true 0 (station_at h s).unreported y.1.1.1.0) (m.rules.arrived_sent x.method s) (ml.arrived_few x.method s (can_arrive m ml rule c x k s z))
+  granted_few close y z = f
+  granted_few (file late_on_receipt text) y z = f
 
 module _ (m : Model) (ml : models.Lawful m) (rule : Rule) where
-  run_few : (calls : List Call) (c : Cut) (x : House m.State) → Holds m rule c x → FewIn x.hall → FewIn (run m rule x calls).hall
+  run_few : (calls : List Call) (c : Cut) (x : HouseState m.State) → Holds m rule c x → FewIn x.cells → FewIn (run m rule x calls).cells
   run_few [] c x k f = f
   run_few (call ∷ calls) c x k f = go (first_no (questions m rule x call)) refl (λ c' x' k' f'. run_few calls c' x' k' f')
     where
-      go : (o : Option (ℕ × ℕ × ℕ)) → first_no (questions m rule x call) ≡ o → ((c' : Cut) (x' : House m.State) → Holds m rule c' x' → FewIn x'.hall → FewIn (run m rule x' calls).hall) → FewIn (run m rule (next x (outcome o (after m rule x call) (reply m x call))) calls).hall
+      go : (o : Option (ℕ × ℕ × ℕ)) → first_no (questions m rule x call) ≡ o → ((c' : Cut) (x' : HouseState m.State) → Holds m rule c' x' → FewIn x'.cells → FewIn (run m rule x' calls).cells) → FewIn (run m rule (next x (outcome o (after m rule x call) (reply m x call))) calls).cells
       go None e ih =
-          let y = yes_parts (house_questions rule x.phase x.hall (m.rules.outstanding x.method) call) (method_questions m x call) (all_yes_lem (questions m rule x call) e) in
-          ih (cut_after c call) (after m rule x call) (accepted_holds m ml rule c x call k e) (accepted_few m ml rule c x k f call y.0 y.1)
+          let y = yes_parts (house_questions rule x.phase x.cells (m.rules.outstanding x.method) call) (method_questions m x call) (all_yes_lem (questions m rule x call) e) in
+          ih (cut_after c call) (after m rule x call) (granted_holds m ml rule c x call k e) (granted_few m ml rule c x k f call y.0 y.1)
       go (Some code) e ih = ih c x k f
 
-made_few : (n t l : ℕ) → FewIn (made_hall n t l)
-made_few n t l =
-    let z = sum_n_none (λ s. (at (made_hall n t l) s).unreported) n (λ s _. ap (λ u. u.unreported) (get_or-same n fresh s)) in
+made_few : (handed : Handed) → FewIn (made_cells handed)
+made_few handed =
+    let z = sum_n_none (λ s. (station_at (made_cells handed) s).unreported) handed.n (λ s _. ap (λ u. u.unreported) (get_or-same handed.n fresh s)) in
     rw z (omega arith)
 
-history_few : (m : Model) → models.Lawful m → (rule : Rule) (x : House m.State) → History m rule x → FewIn x.hall
+history_few : (m : Model) → models.Lawful m → (rule : Rule) (x : HouseState m.State) → History m rule x → FewIn x.cells
 history_few m ml rule x history =
-    let g = made_yes m history.n history.sheets history.recorded history.tray_cells history.late_cells history.method history.first history.made in
-    let k = made_holds m rule history.n history.sheets history.recorded history.tray_cells history.late_cells history.method history.valid g.0 in
-    subst (λ (y : House m.State). FewIn y.hall) history.leads
-    (run_few m ml rule history.calls no_cut history.first (subst (λ y. Holds m rule no_cut y) (sym g.1) k) (subst (λ (y : House m.State). FewIn y.hall) (sym g.1) (made_few history.n history.tray_cells history.late_cells)))
+    let g = made_yes m history.handed history.method history.first history.made in
+    let k = made_holds m rule history.handed history.method history.valid g.0 in
+    subst (λ (y : HouseState m.State). FewIn y.cells) history.leads
+    (run_few m ml rule history.calls no_cut history.first (subst (λ y. Holds m rule no_cut y) (sym g.1) k) (subst (λ (y : HouseState m.State). FewIn y.cells) (sym g.1) (made_few history.handed)))
 
 -- what a receipt tells
 abbrev late_told : Answer → ℕ
@@ -189,9 +189,9 @@ few_close late messages total true f = omega arith
 few_close late messages total false f = omega arith
 
 pub messages_are_few : (m : Model) → models.Lawful m → MessagesAreFew m
-messages_are_few m ml rule x y late messages granted history =
-    let a = outcome_answer (first_no (questions m rule x close)) (after m rule x close) y (reply m x close) (receipt late messages) granted in
-    let el : length x.hall.late ≡ late = ap late_told a in
-    let em : x.hall.messages ≡ messages = ap messages_told a in
-    let f = few_close (length x.hall.late) x.hall.messages (sum_n (λ s. (at x.hall s).unreported) x.hall.n) (at x.hall 0).gathered (history_few m ml rule x history) in
-    subst (λ k. messages ≤ 1000 * (k + 1)) el (subst (λ k. k ≤ 1000 * (length x.hall.late + 1)) em f)
+messages_are_few m ml rule x y late messages answered history =
+    let a = outcome_answer (first_no (questions m rule x close)) (after m rule x close) y (reply m x close) (receipt late messages) answered in
+    let el : length x.cells.late ≡ late = ap late_told a in
+    let em : x.cells.messages ≡ messages = ap messages_told a in
+    let f = few_close (length x.cells.late) x.cells.messages (sum_n (λ s. (station_at x.cells s).unreported) x.cells.n) (station_at x.cells 0).gathered (history_few m ml rule x history) in
+    subst (λ k. messages ≤ 1000 * (k + 1)) el (subst (λ k. k ≤ 1000 * (length x.cells.late + 1)) em f)

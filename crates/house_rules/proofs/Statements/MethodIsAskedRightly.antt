@@ -10,7 +10,7 @@ use Rattle.house_rules.specs.Calls.EveryCall.{Call, house_questions, method_ques
 use Rattle.house_rules.specs.Theorem.Cut.{Cut}
 use Rattle.house_rules.specs.Calls.Gather.{gather_questions, sum_at, root_questions}
 use Rattle.house_rules.specs.Calls.Report.{report_questions, arrived_questions}
-use Rattle.house_rules.specs.State.House.{House, at}
+use Rattle.house_rules.specs.State.House.{HouseState, station_at}
 use Rattle.common.proofs.AllYes.{AllYes, first_decide}
 use Rattle.house_rules.proofs.Statements.CloseIsACut.{owed}
 use Rattle.house_rules.proofs.Invariant.GatheredSum.{root_sum}
@@ -34,18 +34,18 @@ pub fits_begin : (z : ℤ) → (le_z (pos 0) z && le_z z (pos 8192)) ≡ true �
 fits_begin (pos k) e = let p = and_parts (le_z (pos 0) (pos k)) (le_z (pos k) (pos 8192)) e in (refl, leb-true k 8192 p.1)
 fits_begin (negsuc k) e = let p = and_parts (le_z (pos 0) (negsuc k)) (le_z (negsuc k) (pos 8192)) e in absurd (true≢false (sym p.0))
 
-module _ (m : Model) (rule : Rule) (c : Cut) (x : House m.State) (k : Holds m rule c x) where
+module _ (m : Model) (rule : Rule) (c : Cut) (x : HouseState m.State) (k : Holds m rule c x) where
   -- once all have turned, what is gathered at the root is the old slips under way and the late ones
-  root_is : During rule c x.hall (m.rules.outstanding x.method) → ((s : ℕ) → s < x.hall.n → c.turned s ≡ true) → sum_at x.hall 0 ≡ pos (count (λ a b. not (c.new a b)) x.hall.tray + length x.hall.late)
+  root_is : During rule c x.cells (m.rules.outstanding x.method) → ((s : ℕ) → s < x.cells.n → c.turned s ≡ true) → sum_at x.cells 0 ≡ pos (count (λ a b. not (c.new a b)) x.cells.tray + length x.cells.late)
   root_is co ev =
-      let h = x.hall in
+      let h = x.cells in
       let sh = k.sound.shape in
-      let g : sum_z (λ s. cond (c.turned s) (at h s).frozen (at h s).running) h.n ≡ sum_z (λ s. (at h s).frozen) h.n = sum_z_same _ _ h.n (λ s l. rw (ev s l)) in
-      root_sum h.stations (rw sh.stations sh.few) ∙ ap (λ j. sum_z (λ s. (at h s).frozen) j) sh.stations ∙ sym g ∙ co.balance.frozen
+      let g : sum_z (λ s. cond (c.turned s) (station_at h s).frozen (station_at h s).running) h.n ≡ sum_z (λ s. (station_at h s).frozen) h.n = sum_z_same _ _ h.n (λ s l. rw (ev s l)) in
+      root_sum h.stations (rw sh.stations sh.few) ∙ ap (λ j. sum_z (λ s. (station_at h s).frozen) j) sh.stations ∙ sym g ∙ co.balance.frozen
 
-  root_fits : During rule c x.hall (m.rules.outstanding x.method) → ((s : ℕ) → s < x.hall.n → c.turned s ≡ true) → (le_z (pos 0) (sum_at x.hall 0) && le_z (sum_at x.hall 0) (pos 8192)) ≡ true
+  root_fits : During rule c x.cells (m.rules.outstanding x.method) → ((s : ℕ) → s < x.cells.n → c.turned s ≡ true) → (le_z (pos 0) (sum_at x.cells 0) && le_z (sum_at x.cells 0) (pos 8192)) ≡ true
   root_fits co ev =
-      let h = x.hall in
+      let h = x.cells in
       let a = count_le (λ a b. not (c.new a b)) h.tray in
       let b = k.room.tray in
       let d = k.room.late in
@@ -56,19 +56,19 @@ module _ (m : Model) (rule : Rule) (c : Cut) (x : House m.State) (k : Holds m ru
       fits : (w : ℕ) → w ≤ 8192 → (le_z (pos 0) (pos w) && le_z (pos w) (pos 8192)) ≡ true
       fits w d = let z : le_z (pos 0) (pos w) ≡ true = le-leb 0 w (omega arith) in let u : le_z (pos w) (pos 8192) ≡ true = le-leb w 8192 d in rw (z, u)
 
-  begin_yes : (s : ℕ) → AllYes (gather_questions x.phase x.hall s) → AllYes (root_questions m x s)
+  begin_yes : (s : ℕ) → AllYes (gather_questions x.phase x.cells s) → AllYes (root_questions m x s)
   begin_yes s y = go (eqb s 0) refl
     where
-      go : (b : Bool) → eqb s 0 ≡ b → AllYes (cond b (begin_questions (m.rules.outstanding x.method) x.hall.n (sum_at x.hall s)) [])
+      go : (b : Bool) → eqb s 0 ≡ b → AllYes (cond b (begin_questions (m.rules.outstanding x.method) x.cells.n (sum_at x.cells s)) [])
       go false e = tt
       go true e =
-          let h = x.hall in
+          let h = x.cells in
           let u = eqb-true s 0 e in
           let ph = is_counting_lem x.phase y.1.0 in
           let q = and_parts _ _ y.1.1.1.1.0 in
           let lt = ltb-true s h.n y.0 in
-          let ng : (at h s).gathered ≡ false = not-true _ y.1.1.1.0 in
-          let ng' : (at h 0).gathered ≡ false = rw u at ng in
+          let ng : (station_at h s).gathered ≡ false = not-true _ y.1.1.1.0 in
+          let ng' : (station_at h 0).gathered ≡ false = rw u at ng in
           let co = during_of rule c x.phase h (m.rules.outstanding x.method) k.sound ph in
           let ev = turned_below rule c x.phase h (m.rules.outstanding x.method) k.sound ph s u lt y.1.1.0 q.0 q.1 in
           let f : (le_z (pos 0) (sum_at h s) && le_z (sum_at h s) (pos 8192)) ≡ true = rw u (root_fits co ev) in
@@ -77,19 +77,19 @@ module _ (m : Model) (rule : Rule) (c : Cut) (x : House m.State) (k : Holds m ru
           let o : m.rules.outstanding x.method ≡ 0 = k.served.idle (rw (y.1.0, ng')) in
           (rw (n1, n2, f), (eq-eqb (m.rules.outstanding x.method) 0 o, tt))
 
-  arrived_yes : (s : ℕ) → AllYes (report_questions x.phase x.hall s) → AllYes (arrived_questions m x s)
+  arrived_yes : (s : ℕ) → AllYes (report_questions x.phase x.cells s) → AllYes (arrived_questions m x s)
   arrived_yes s y =
-      let h = x.hall in
+      let h = x.cells in
       let ph = is_counting_lem x.phase y.1.0 in
       let lt = ltb-true s h.n y.0 in
-      let u = ltb-true 0 (at h s).unreported y.1.1.1.0 in
+      let u = ltb-true 0 (station_at h s).unreported y.1.1.1.0 in
       let co = during_of rule c x.phase h (m.rules.outstanding x.method) k.sound ph in
       let o = owed rule c x.phase h (m.rules.outstanding x.method) k.sound co y.1.1.0 in
-      let b = sum_n_le (λ s. (at h s).unreported) h.n s lt in
+      let b = sum_n_le (λ s. (station_at h s).unreported) h.n s lt in
       let st : m.rules.stations x.method ≡ h.n = k.served.counted (rw (y.1.0, y.1.1.0)) in
       (lt-ltb s (m.rules.stations x.method) (rw st lt), (lt-ltb 0 (m.rules.outstanding x.method) (omega arith), tt))
 
-  pub method_yes : (call : Call) → AllYes (house_questions rule x.phase x.hall (m.rules.outstanding x.method) call) → AllYes (method_questions m x call)
+  pub method_yes : (call : Call) → AllYes (house_questions rule x.phase x.cells (m.rules.outstanding x.method) call) → AllYes (method_questions m x call)
   method_yes (enter s a b r) y = tt
   method_yes (post s to line amount) y = tt
   method_yes (take a b) y = tt
@@ -98,8 +98,8 @@ module _ (m : Model) (rule : Rule) (c : Cut) (x : House m.State) (k : Holds m ru
   method_yes (gather s) y = begin_yes s y
   method_yes (report s) y = arrived_yes s y
   method_yes close y = tt
-  method_yes (file told text) y = tt
+  method_yes (file late_on_receipt text) y = tt
 
   -- so the house alone decides
-  pub house_decides : (call : Call) → first_no (questions m rule x call) ≡ first_no (house_questions rule x.phase x.hall (m.rules.outstanding x.method) call)
-  house_decides call = first_decide (house_questions rule x.phase x.hall (m.rules.outstanding x.method) call) (method_questions m x call) (method_yes call)
+  pub house_decides : (call : Call) → first_no (questions m rule x call) ≡ first_no (house_questions rule x.phase x.cells (m.rules.outstanding x.method) call)
+  house_decides call = first_decide (house_questions rule x.phase x.cells (m.rules.outstanding x.method) call) (method_questions m x call) (method_yes call)

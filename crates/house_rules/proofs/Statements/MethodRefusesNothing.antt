@@ -9,8 +9,8 @@ use Rattle.house_rules.specs.declared.slip.ColouredSlip.{ColouredSlip}
 use Rattle.house_rules.specs.Calls.Questions.{is_deficit}
 use Rattle.house_rules.specs.Calls.EveryCall.{Call, house_questions, method_questions, questions, after, reply, enter, post, take, open', turn, gather, report, close, file}
 use Rattle.house_rules.specs.Theorem.Cut.{cut_of}
-use Rattle.house_rules.specs.Theorem.Histories.{past}
-use Rattle.house_rules.specs.State.House.{Hall, sheet_at}
+use Rattle.house_rules.specs.Theorem.Histories.{granted_calls}
+use Rattle.house_rules.specs.State.House.{Cells, sheet_at}
 use Rattle.house_rules.specs.Theorem.Statements.{MethodRefusesNothing}
 use Rattle.house_rules.specs.Calls.Take.{is_late, running_after, take_questions, under_way}
 use Rattle.common.proofs.AllYes.{all_yes_lem, no_first}
@@ -24,7 +24,7 @@ low_section : (qs : SectionQuestions) → Low (told_as section_code qs)
 low_section [] = tt
 low_section (q ∷ qs) = (omega arith, low_section qs)
 
-low_take : (rule : Rule) (p : Phase) (h : Hall) (o : Option ColouredSlip) → Low (take_questions rule p h o)
+low_take : (rule : Rule) (p : Phase) (h : Cells) (o : Option ColouredSlip) → Low (take_questions rule p h o)
 low_take rule p h None = (omega arith, tt)
 low_take rule p h (Some x) = (go (is_late p h x), (low_section (rule.credit (sheet_at h x.slip.receiver) x.slip.line x.slip.amount)))
   where
@@ -32,7 +32,7 @@ low_take rule p h (Some x) = (go (is_late p h x), (low_section (rule.credit (she
     go true = omega arith
     go false = omega arith
 
-low_house : (rule : Rule) (p : Phase) (h : Hall) (out : ℕ) (call : Call) → Low (house_questions rule p h out call)
+low_house : (rule : Rule) (p : Phase) (h : Cells) (out : ℕ) (call : Call) → Low (house_questions rule p h out call)
 low_house rule p h out (enter s a b r) = (omega arith, (omega arith, low_section (rule.entry (sheet_at h s) a b r)))
 low_house rule p h out (post s to line amount) = (omega arith, (omega arith, (omega arith, (omega arith, (omega arith, low_section (rule.debit (sheet_at h s) line amount))))))
 low_house rule p h out (take a b) = low_take rule p h (under_way h a b)
@@ -41,13 +41,13 @@ low_house rule p h out (turn s) = (omega arith, (omega arith, (omega arith, tt))
 low_house rule p h out (gather s) = (omega arith, (omega arith, (omega arith, (omega arith, (omega arith, tt)))))
 low_house rule p h out (report s) = (omega arith, (omega arith, (omega arith, (omega arith, tt))))
 low_house rule p h out close = (omega arith, (omega arith, (omega arith, tt)))
-low_house rule p h out (file told text) = (omega arith, (omega arith, tt))
+low_house rule p h out (file late_on_receipt text) = (omega arith, (omega arith, tt))
 
 pub method_refuses_nothing : (m : Model) → models.Lawful m → MethodRefusesNothing m
 method_refuses_nothing m ml rule x history call = (
-  λ e. no_first (method_questions m x call) (method_yes m rule (cut_of (past m rule x history)) x (history_holds m ml rule x history) call (all_yes_lem (house_questions rule x.phase x.hall (m.rules.outstanding x.method) call) e)),
+  λ e. no_first (method_questions m x call) (method_yes m rule (cut_of (granted_calls m rule x history)) x (history_holds m ml rule x history) call (all_yes_lem (house_questions rule x.phase x.cells (m.rules.outstanding x.method) call) e)),
   λ code e.
       let k = history_holds m ml rule x history in
       let o = outcome_refused (first_no (questions m rule x call)) (after m rule x call) (reply m x call) code e in
-      low_first (house_questions rule x.phase x.hall (m.rules.outstanding x.method) call) code (low_house rule x.phase x.hall (m.rules.outstanding x.method) call) (sym (house_decides m rule (cut_of (past m rule x history)) x k call) ∙ o),
+      low_first (house_questions rule x.phase x.cells (m.rules.outstanding x.method) call) code (low_house rule x.phase x.cells (m.rules.outstanding x.method) call) (sym (house_decides m rule (cut_of (granted_calls m rule x history)) x k call) ∙ o),
 )

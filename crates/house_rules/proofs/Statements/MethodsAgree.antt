@@ -1,4 +1,4 @@
--- Two houses that are made alike but for the method tell the same and stay alike, messages aside.
+-- Two houses that are made alike but for the method give the same responses and stay alike, messages aside.
 use Rattle.std.proofs.Common.{◌≡◌, ℕ, ◌+◌, Bool, true, false, cond, eqb, List, [], ◌∷◌, map, length, nat_abs, Some, None, Option, sym, refl, ap, ◌∙◌, subst, arith}
 use Rattle.std.proofs.lemmas.Bool.{eqb-true}
 use Rattle.sections.specs.Rule.{Rule}
@@ -8,37 +8,37 @@ use Rattle.house_rules.specs.declared.phase.Phase.{Phase}
 use Rattle.house_rules.specs.declared.phase.Phase.TheVariants.{Ready, Counting, Closed}
 use Rattle.house_rules.specs.declared.slip.ColouredSlip.{ColouredSlip}
 use Rattle.house_rules.specs.Calls.EveryCall.{Call, Answer, house_questions, method_questions, questions, after, reply, enter, post, take, open', turn, gather, report, close, file, nothing, number, sum, sent, receipt, filed}
-use Rattle.house_rules.specs.State.Changes.{with_messages, with_hall}
+use Rattle.house_rules.specs.State.Changes.{with_messages, with_cells}
 use Rattle.house_rules.specs.Theorem.Cut.{Cut, no_cut, cut_after}
-use Rattle.house_rules.specs.Calls.Enter.{entered_hall}
+use Rattle.house_rules.specs.Calls.Enter.{entered_cells}
 use Rattle.house_rules.specs.Calls.File.{text_of, written_over}
-use Rattle.house_rules.specs.Calls.Gather.{sum_at, gathered_hall, root_questions, root_gathers, after_gather}
-use Rattle.house_rules.specs.Calls.Open.{opened_hall}
-use Rattle.house_rules.specs.Calls.Post.{posted_hall}
-use Rattle.house_rules.specs.Calls.Report.{reported_hall}
-use Rattle.house_rules.specs.Theorem.Histories.{Outcome, outcome, next, run, told_of, all_told, told_no, told_ok}
-use Rattle.house_rules.specs.State.House.{Hall, House, at}
-use Rattle.house_rules.specs.Theorem.Statements.{messages_aside, told_aside, MethodsAgree}
-use Rattle.house_rules.specs.Calls.Take.{is_late, turns_receiver, take_questions, arrives, arrives_late, taken_hall, under_way}
+use Rattle.house_rules.specs.Calls.Gather.{sum_at, gathered_cells, root_questions, root_gathers, after_gather}
+use Rattle.house_rules.specs.Calls.Open.{opened_cells}
+use Rattle.house_rules.specs.Calls.Post.{posted_cells}
+use Rattle.house_rules.specs.Calls.Report.{reported_cells}
+use Rattle.house_rules.specs.Theorem.Histories.{Outcome, outcome, next, run, response_of, responses, refused_with, granted}
+use Rattle.house_rules.specs.State.House.{Cells, HouseState, station_at}
+use Rattle.house_rules.specs.Theorem.Statements.{messages_aside, response_aside, MethodsAgree}
+use Rattle.house_rules.specs.Calls.Take.{is_late, turns_receiver, take_questions, arrives, arrives_late, taken_cells, under_way}
 use Rattle.house_rules.specs.Calls.Turn.{turns}
 use Rattle.house_rules.proofs.Calls.EveryCall.{begun_left, arrived_left}
 use Rattle.common.proofs.AllYes.{AllYes, all_yes_lem, yes_parts}
-use Rattle.house_rules.proofs.Statements.CountsAreConsistent.{accepted_holds, made_yes, made_holds}
+use Rattle.house_rules.proofs.Statements.CountsAreConsistent.{granted_holds, made_yes, made_holds}
 use Rattle.house_rules.proofs.Invariant.WholeHouse.{Holds}
 use Rattle.house_rules.proofs.Statements.MethodIsAskedRightly.{house_decides}
 use Rattle.methods.specs.Model as models
 
--- a hall with its messages set aside
-abbrev aside : Hall → Hall
+-- the cells with the messages set aside
+abbrev aside : Cells → Cells
 aside h = with_messages h 0
 
 -- Questions, answers and effects do not look at the messages
 
-take_questions_aside : (rule : Rule) (p : Phase) (h : Hall) (o : Option ColouredSlip) → take_questions rule p h o ≡ take_questions rule p (aside h) o
+take_questions_aside : (rule : Rule) (p : Phase) (h : Cells) (o : Option ColouredSlip) → take_questions rule p h o ≡ take_questions rule p (aside h) o
 take_questions_aside rule p h None = refl
 take_questions_aside rule p h (Some x) = refl
 
-questions_aside : (rule : Rule) (p : Phase) (h : Hall) (out : ℕ) (call : Call) → house_questions rule p h out call ≡ house_questions rule p (aside h) out call
+questions_aside : (rule : Rule) (p : Phase) (h : Cells) (out : ℕ) (call : Call) → house_questions rule p h out call ≡ house_questions rule p (aside h) out call
 questions_aside rule p h out (enter s a b r) = refl
 questions_aside rule p h out (post s to line amount) = refl
 questions_aside rule p h out (take a b) = take_questions_aside rule p h (under_way h a b)
@@ -47,21 +47,21 @@ questions_aside rule p h out (turn s) = refl
 questions_aside rule p h out (gather s) = refl
 questions_aside rule p h out (report s) = refl
 questions_aside rule p h out close = refl
-questions_aside rule p h out (file told text) = refl
+questions_aside rule p h out (file late_on_receipt text) = refl
 
--- the answer of an accepted call, messages aside
-abbrev plain_reply : Hall → Call → Answer
+-- the answer of a granted call, messages aside
+abbrev plain_reply : Cells → Call → Answer
 plain_reply h (enter s a b r) = nothing
-plain_reply h (post s to line amount) = number ((at h s).posted + 1)
+plain_reply h (post s to line amount) = number ((station_at h s).posted + 1)
 plain_reply h (take a b) = nothing
 plain_reply h (open' s) = nothing
 plain_reply h (turn s) = nothing
 plain_reply h (gather s) = sum (sum_at h s)
 plain_reply h (report s) = sent 0
 plain_reply h close = receipt (length h.late) 0
-plain_reply h (file told text) = filed (length (text_of h)) (written_over (text_of h) text)
+plain_reply h (file late_on_receipt text) = filed (length (text_of h)) (written_over (text_of h) text)
 
-reply_aside : (m : Model) (x : House m.State) (call : Call) → messages_aside (reply m x call) ≡ plain_reply (aside x.hall) call
+reply_aside : (m : Model) (x : HouseState m.State) (call : Call) → messages_aside (reply m x call) ≡ plain_reply (aside x.cells) call
 reply_aside m x (enter s a b r) = refl
 reply_aside m x (post s to line amount) = refl
 reply_aside m x (take a b) = refl
@@ -70,46 +70,46 @@ reply_aside m x (turn s) = refl
 reply_aside m x (gather s) = refl
 reply_aside m x (report s) = refl
 reply_aside m x close = refl
-reply_aside m x (file told text) = refl
+reply_aside m x (file late_on_receipt text) = refl
 
--- the hall after an accepted call, messages aside
-abbrev hall_after : Rule → Phase → Hall → Call → Hall
-hall_after rule p h (enter s a b r) = entered_hall rule h s a b r
-hall_after rule p h (post s to line amount) = posted_hall h s to line amount
-hall_after rule p h (take a b) = taken_hall p h (under_way h a b)
-hall_after rule p h (open' s) = opened_hall h s
-hall_after rule p h (turn s) = turns h s
-hall_after rule p h (gather s) = gathered_hall h s
-hall_after rule p h (report s) = reported_hall h s
-hall_after rule p h close = h
-hall_after rule p h (file told text) = h
+-- the cells after a granted call, messages aside
+abbrev cells_after : Rule → Phase → Cells → Call → Cells
+cells_after rule p h (enter s a b r) = entered_cells rule h s a b r
+cells_after rule p h (post s to line amount) = posted_cells h s to line amount
+cells_after rule p h (take a b) = taken_cells p h (under_way h a b)
+cells_after rule p h (open' s) = opened_cells h s
+cells_after rule p h (turn s) = turns h s
+cells_after rule p h (gather s) = gathered_cells h s
+cells_after rule p h (report s) = reported_cells h s
+cells_after rule p h close = h
+cells_after rule p h (file late_on_receipt text) = h
 
-arrived_aside : (h : Hall) (x : ColouredSlip) (b t : Bool) → aside (cond b (arrives_late h x) (arrives (cond t (turns h x.slip.receiver) h) x)) ≡ aside (cond b (arrives_late (aside h) x) (arrives (cond t (turns (aside h) x.slip.receiver) (aside h)) x))
+arrived_aside : (h : Cells) (x : ColouredSlip) (b t : Bool) → aside (cond b (arrives_late h x) (arrives (cond t (turns h x.slip.receiver) h) x)) ≡ aside (cond b (arrives_late (aside h) x) (arrives (cond t (turns (aside h) x.slip.receiver) (aside h)) x))
 arrived_aside h x true t = refl
 arrived_aside h x false true = refl
 arrived_aside h x false false = refl
 
-taken_aside : (p : Phase) (h : Hall) (o : Option ColouredSlip) → aside (taken_hall p h o) ≡ aside (taken_hall p (aside h) o)
+taken_aside : (p : Phase) (h : Cells) (o : Option ColouredSlip) → aside (taken_cells p h o) ≡ aside (taken_cells p (aside h) o)
 taken_aside p h None = refl
 taken_aside p h (Some x) = arrived_aside h x (is_late p h x) (turns_receiver p h x)
 
-gather_aside : (m : Model) (x : House m.State) (s : ℕ) → aside (after_gather m x s).hall ≡ aside (gathered_hall (aside x.hall) s)
+gather_aside : (m : Model) (x : HouseState m.State) (s : ℕ) → aside (after_gather m x s).cells ≡ aside (gathered_cells (aside x.cells) s)
 gather_aside m x s = go (eqb s 0)
   where
-    go : (b : Bool) → aside (cond b (root_gathers m x s) (with_hall x (gathered_hall x.hall s))).hall ≡ aside (gathered_hall (aside x.hall) s)
+    go : (b : Bool) → aside (cond b (root_gathers m x s) (with_cells x (gathered_cells x.cells s))).cells ≡ aside (gathered_cells (aside x.cells) s)
     go true = refl
     go false = refl
 
-after_aside : (m : Model) (rule : Rule) (x : House m.State) (call : Call) → aside (after m rule x call).hall ≡ aside (hall_after rule x.phase (aside x.hall) call)
+after_aside : (m : Model) (rule : Rule) (x : HouseState m.State) (call : Call) → aside (after m rule x call).cells ≡ aside (cells_after rule x.phase (aside x.cells) call)
 after_aside m rule x (enter s a b r) = refl
 after_aside m rule x (post s to line amount) = refl
-after_aside m rule x (take a b) = taken_aside x.phase x.hall (under_way x.hall a b)
+after_aside m rule x (take a b) = taken_aside x.phase x.cells (under_way x.cells a b)
 after_aside m rule x (open' s) = refl
 after_aside m rule x (turn s) = refl
 after_aside m rule x (gather s) = gather_aside m x s
 after_aside m rule x (report s) = refl
 after_aside m rule x close = refl
-after_aside m rule x (file told text) = refl
+after_aside m rule x (file late_on_receipt text) = refl
 
 abbrev phase_after : Phase → Call → Phase
 phase_after p (enter s a b r) = p
@@ -120,9 +120,9 @@ phase_after p (turn s) = p
 phase_after p (gather s) = p
 phase_after p (report s) = p
 phase_after p close = Closed
-phase_after p (file told text) = Ready
+phase_after p (file late_on_receipt text) = Ready
 
-phase_after_lem : (m : Model) (rule : Rule) (x : House m.State) (call : Call) → (after m rule x call).phase ≡ phase_after x.phase call
+phase_after_lem : (m : Model) (rule : Rule) (x : HouseState m.State) (call : Call) → (after m rule x call).phase ≡ phase_after x.phase call
 phase_after_lem m rule x (enter s a b r) = refl
 phase_after_lem m rule x (post s to line amount) = refl
 phase_after_lem m rule x (take a b) = refl
@@ -130,47 +130,47 @@ phase_after_lem m rule x (open' s) = refl
 phase_after_lem m rule x (turn s) = refl
 phase_after_lem m rule x (gather s) = go (eqb s 0)
   where
-    go : (b : Bool) → (cond b (root_gathers m x s) (with_hall x (gathered_hall x.hall s))).phase ≡ x.phase
+    go : (b : Bool) → (cond b (root_gathers m x s) (with_cells x (gathered_cells x.cells s))).phase ≡ x.phase
     go true = refl
     go false = refl
 phase_after_lem m rule x (report s) = refl
 phase_after_lem m rule x close = refl
-phase_after_lem m rule x (file told text) = refl
+phase_after_lem m rule x (file late_on_receipt text) = refl
 
 -- Two methods side by side
 
-record Same (m k : Model) (x : House m.State) (y : House k.State) : Type 0 where
+record Same (m k : Model) (x : HouseState m.State) (y : HouseState k.State) : Type 0 where
   phase : x.phase ≡ y.phase
-  hall : aside x.hall ≡ aside y.hall
+  cells : aside x.cells ≡ aside y.cells
   outstanding : m.rules.outstanding x.method ≡ k.rules.outstanding y.method
 
 module _ (m k : Model) (ml : models.Lawful m) (kl : models.Lawful k) (rule : Rule) where
-  same_questions : (c d : Cut) (x : House m.State) (y : House k.State) (call : Call) → Holds m rule c x → Holds k rule d y → Same m k x y → first_no (questions m rule x call) ≡ first_no (questions k rule y call)
+  same_questions : (c d : Cut) (x : HouseState m.State) (y : HouseState k.State) (call : Call) → Holds m rule c x → Holds k rule d y → Same m k x y → first_no (questions m rule x call) ≡ first_no (questions k rule y call)
   same_questions c d x y call hx hy s =
       house_decides m rule c x hx call
-      ∙ ap first_no (questions_aside rule x.phase x.hall (m.rules.outstanding x.method) call)
-      ∙ ap (λ p. first_no (house_questions rule p (aside x.hall) (m.rules.outstanding x.method) call)) s.phase
-      ∙ ap (λ h. first_no (house_questions rule y.phase h (m.rules.outstanding x.method) call)) s.hall
-      ∙ ap (λ o. first_no (house_questions rule y.phase (aside y.hall) o call)) s.outstanding
-      ∙ sym (ap first_no (questions_aside rule y.phase y.hall (k.rules.outstanding y.method) call))
+      ∙ ap first_no (questions_aside rule x.phase x.cells (m.rules.outstanding x.method) call)
+      ∙ ap (λ p. first_no (house_questions rule p (aside x.cells) (m.rules.outstanding x.method) call)) s.phase
+      ∙ ap (λ h. first_no (house_questions rule y.phase h (m.rules.outstanding x.method) call)) s.cells
+      ∙ ap (λ o. first_no (house_questions rule y.phase (aside y.cells) o call)) s.outstanding
+      ∙ sym (ap first_no (questions_aside rule y.phase y.cells (k.rules.outstanding y.method) call))
       ∙ sym (house_decides k rule d y hy call)
 
-  same_reply : (x : House m.State) (y : House k.State) (call : Call) → Same m k x y → messages_aside (reply m x call) ≡ messages_aside (reply k y call)
-  same_reply x y call s = reply_aside m x call ∙ ap (λ h. plain_reply h call) s.hall ∙ sym (reply_aside k y call)
+  same_reply : (x : HouseState m.State) (y : HouseState k.State) (call : Call) → Same m k x y → messages_aside (reply m x call) ≡ messages_aside (reply k y call)
+  same_reply x y call s = reply_aside m x call ∙ ap (λ h. plain_reply h call) s.cells ∙ sym (reply_aside k y call)
 
   -- after a begin the methods wait for the same sum, after an arrival for one fewer
-  gather_outstanding : (c d : Cut) (x : House m.State) (y : House k.State) (s : ℕ) → Holds m rule c x → Holds k rule d y → Same m k x y → AllYes (root_questions m x s) → AllYes (root_questions k y s) → m.rules.outstanding (after_gather m x s).method ≡ k.rules.outstanding (after_gather k y s).method
+  gather_outstanding : (c d : Cut) (x : HouseState m.State) (y : HouseState k.State) (s : ℕ) → Holds m rule c x → Holds k rule d y → Same m k x y → AllYes (root_questions m x s) → AllYes (root_questions k y s) → m.rules.outstanding (after_gather m x s).method ≡ k.rules.outstanding (after_gather k y s).method
   gather_outstanding c d x y s hx hy sa yx yy = go (eqb s 0) refl
     where
-      go : (b : Bool) → eqb s 0 ≡ b → m.rules.outstanding (cond b (root_gathers m x s) (with_hall x (gathered_hall x.hall s))).method ≡ k.rules.outstanding (cond b (root_gathers k y s) (with_hall y (gathered_hall y.hall s))).method
+      go : (b : Bool) → eqb s 0 ≡ b → m.rules.outstanding (cond b (root_gathers m x s) (with_cells x (gathered_cells x.cells s))).method ≡ k.rules.outstanding (cond b (root_gathers k y s) (with_cells y (gathered_cells y.cells s))).method
       go true e =
           let a = (begun_left m ml rule c x hx s e yx).0 in
           let b = (begun_left k kl rule d y hy s e yy).0 in
-          let h : sum_at x.hall s ≡ sum_at y.hall s = ap (λ (z : Hall). sum_at z s) sa.hall in
+          let h : sum_at x.cells s ≡ sum_at y.cells s = ap (λ (z : Cells). sum_at z s) sa.cells in
           ap nat_abs (a ∙ h ∙ sym b)
       go false e = sa.outstanding
 
-  same_outstanding : (c d : Cut) (x : House m.State) (y : House k.State) (call : Call) → Holds m rule c x → Holds k rule d y → Same m k x y → AllYes (method_questions m x call) → AllYes (method_questions k y call) → m.rules.outstanding (after m rule x call).method ≡ k.rules.outstanding (after k rule y call).method
+  same_outstanding : (c d : Cut) (x : HouseState m.State) (y : HouseState k.State) (call : Call) → Holds m rule c x → Holds k rule d y → Same m k x y → AllYes (method_questions m x call) → AllYes (method_questions k y call) → m.rules.outstanding (after m rule x call).method ≡ k.rules.outstanding (after k rule y call).method
   same_outstanding c d x y (enter s a b r) hx hy sa yx yy = sa.outstanding
   same_outstanding c d x y (post s to line amount) hx hy sa yx yy = sa.outstanding
   same_outstanding c d x y (take a b) hx hy sa yx yy = sa.outstanding
@@ -183,23 +183,23 @@ module _ (m k : Model) (ml : models.Lawful m) (kl : models.Lawful k) (rule : Rul
       let o = sa.outstanding in
       omega arith
   same_outstanding c d x y close hx hy sa yx yy = sa.outstanding
-  same_outstanding c d x y (file told text) hx hy sa yx yy = sa.outstanding
+  same_outstanding c d x y (file late_on_receipt text) hx hy sa yx yy = sa.outstanding
 
-  same_after : (c d : Cut) (x : House m.State) (y : House k.State) (call : Call) → Holds m rule c x → Holds k rule d y → Same m k x y → first_no (questions m rule x call) ≡ None → first_no (questions k rule y call) ≡ None → Same m k (after m rule x call) (after k rule y call)
+  same_after : (c d : Cut) (x : HouseState m.State) (y : HouseState k.State) (call : Call) → Holds m rule c x → Holds k rule d y → Same m k x y → first_no (questions m rule x call) ≡ None → first_no (questions k rule y call) ≡ None → Same m k (after m rule x call) (after k rule y call)
   same_after c d x y call hx hy sa ex ey =
-      let yx = yes_parts (house_questions rule x.phase x.hall (m.rules.outstanding x.method) call) (method_questions m x call) (all_yes_lem (questions m rule x call) ex) in
-      let yy = yes_parts (house_questions rule y.phase y.hall (k.rules.outstanding y.method) call) (method_questions k y call) (all_yes_lem (questions k rule y call) ey) in
+      let yx = yes_parts (house_questions rule x.phase x.cells (m.rules.outstanding x.method) call) (method_questions m x call) (all_yes_lem (questions m rule x call) ex) in
+      let yy = yes_parts (house_questions rule y.phase y.cells (k.rules.outstanding y.method) call) (method_questions k y call) (all_yes_lem (questions k rule y call) ey) in
       record {
         phase = phase_after_lem m rule x call ∙ ap (λ p. phase_after p call) sa.phase ∙ sym (phase_after_lem k rule y call);
-        hall =
+        cells =
             after_aside m rule x call
-            ∙ ap (λ p. aside (hall_after rule p (aside x.hall) call)) sa.phase
-            ∙ ap (λ h. aside (hall_after rule y.phase h call)) sa.hall
+            ∙ ap (λ p. aside (cells_after rule p (aside x.cells) call)) sa.phase
+            ∙ ap (λ h. aside (cells_after rule y.phase h call)) sa.cells
             ∙ sym (after_aside k rule y call);
         outstanding = same_outstanding c d x y call hx hy sa yx.1 yy.1;
       }
 
-  run_agrees : (calls : List Call) (c d : Cut) (x : House m.State) (y : House k.State) → Holds m rule c x → Holds k rule d y → Same m k x y → (map told_aside (all_told m rule x calls) ≡ map told_aside (all_told k rule y calls)) × Same m k (run m rule x calls) (run k rule y calls)
+  run_agrees : (calls : List Call) (c d : Cut) (x : HouseState m.State) (y : HouseState k.State) → Holds m rule c x → Holds k rule d y → Same m k x y → (map response_aside (responses m rule x calls) ≡ map response_aside (responses k rule y calls)) × Same m k (run m rule x calls) (run k rule y calls)
   run_agrees [] c d x y hx hy sa = (refl, sa)
   run_agrees (call ∷ calls) c d x y hx hy sa =
       go (first_no (questions m rule x call)) (first_no (questions k rule y call)) refl refl (same_questions c d x y call hx hy sa) (λ c' d' x' y' hx' hy' sa'. run_agrees calls c' d' x' y' hx' hy' sa')
@@ -211,44 +211,44 @@ module _ (m k : Model) (ml : models.Lawful m) (kl : models.Lawful k) (rule : Rul
       after_y o = outcome o (after k rule y call) (reply k y call)
 
       go : (o o' : Option (ℕ × ℕ × ℕ)) → first_no (questions m rule x call) ≡ o → first_no (questions k rule y call) ≡ o' → first_no (questions m rule x call) ≡ first_no (questions k rule y call) →
-          ((c' d' : Cut) (x' : House m.State) (y' : House k.State) → Holds m rule c' x' → Holds k rule d' y' → Same m k x' y' → (map told_aside (all_told m rule x' calls) ≡ map told_aside (all_told k rule y' calls)) × Same m k (run m rule x' calls) (run k rule y' calls)) →
-          (told_aside (told_of (after_x o)) ∷ map told_aside (all_told m rule (next x (after_x o)) calls) ≡ told_aside (told_of (after_y o')) ∷ map told_aside (all_told k rule (next y (after_y o')) calls)) × Same m k (run m rule (next x (after_x o)) calls) (run k rule (next y (after_y o')) calls)
+          ((c' d' : Cut) (x' : HouseState m.State) (y' : HouseState k.State) → Holds m rule c' x' → Holds k rule d' y' → Same m k x' y' → (map response_aside (responses m rule x' calls) ≡ map response_aside (responses k rule y' calls)) × Same m k (run m rule x' calls) (run k rule y' calls)) →
+          (response_aside (response_of (after_x o)) ∷ map response_aside (responses m rule (next x (after_x o)) calls) ≡ response_aside (response_of (after_y o')) ∷ map response_aside (responses k rule (next y (after_y o')) calls)) × Same m k (run m rule (next x (after_x o)) calls) (run k rule (next y (after_y o')) calls)
       go None None e e' q ih =
-          let r = ih (cut_after c call) (cut_after d call) (after m rule x call) (after k rule y call) (accepted_holds m ml rule c x call hx e) (accepted_holds k kl rule d y call hy e') (same_after c d x y call hx hy sa e e') in
-          (ap (λ a. told_ok a ∷ map told_aside (all_told m rule (after m rule x call) calls)) (same_reply x y call sa) ∙ ap (λ l. told_ok (messages_aside (reply k y call)) ∷ l) r.0, r.1)
+          let r = ih (cut_after c call) (cut_after d call) (after m rule x call) (after k rule y call) (granted_holds m ml rule c x call hx e) (granted_holds k kl rule d y call hy e') (same_after c d x y call hx hy sa e e') in
+          (ap (λ a. granted a ∷ map response_aside (responses m rule (after m rule x call) calls)) (same_reply x y call sa) ∙ ap (λ l. granted (messages_aside (reply k y call)) ∷ l) r.0, r.1)
       go (Some a) (Some b) e e' q ih =
           let r = ih c d x y hx hy sa in
           let f : a ≡ b = cc in
-          (ap (λ z. told_no z ∷ map told_aside (all_told m rule x calls)) f ∙ ap (λ l. told_no b ∷ l) r.0, r.1)
+          (ap (λ z. refused_with z ∷ map response_aside (responses m rule x calls)) f ∙ ap (λ l. refused_with b ∷ l) r.0, r.1)
       go None (Some b) e e' q ih = absurd (cc)
       go (Some a) None e e' q ih = absurd (cc)
 
 pub methods_agree : (m k : Model) → models.Lawful m → models.Lawful k → MethodsAgree m k
-methods_agree m k ml kl rule n sheets recorded tray_cells late_cells p q vp vq x y ex ey calls =
-    let gx = made_yes m n sheets recorded tray_cells late_cells p x ex in
-    let gy = made_yes k n sheets recorded tray_cells late_cells q y ey in
-    let hx = subst (λ z. Holds m rule no_cut z) (sym gx.1) (made_holds m rule n sheets recorded tray_cells late_cells p vp gx.0) in
-    let hy = subst (λ z. Holds k rule no_cut z) (sym gy.1) (made_holds k rule n sheets recorded tray_cells late_cells q vq gy.0) in
+methods_agree m k ml kl rule handed p q vp vq x y ex ey calls =
+    let gx = made_yes m handed p x ex in
+    let gy = made_yes k handed q y ey in
+    let hx = subst (λ z. Holds m rule no_cut z) (sym gx.1) (made_holds m rule handed p vp gx.0) in
+    let hy = subst (λ z. Holds k rule no_cut z) (sym gy.1) (made_holds k rule handed q vq gy.0) in
     let sa : Same m k x y =
     record {
-      phase = ap (λ (z : House m.State). z.phase) gx.1 ∙ sym (ap (λ (z : House k.State). z.phase) gy.1);
-      hall = ap (λ (z : House m.State). aside z.hall) gx.1 ∙ sym (ap (λ (z : House k.State). aside z.hall) gy.1);
+      phase = ap (λ (z : HouseState m.State). z.phase) gx.1 ∙ sym (ap (λ (z : HouseState k.State). z.phase) gy.1);
+      cells = ap (λ (z : HouseState m.State). aside z.cells) gx.1 ∙ sym (ap (λ (z : HouseState k.State). aside z.cells) gy.1);
       outstanding =
-          ap (λ (z : House m.State). m.rules.outstanding z.method) gx.1 ∙ eqb-true (m.rules.outstanding p) 0 gx.0.1.1.1.0
-          ∙ sym (ap (λ (z : House k.State). k.rules.outstanding z.method) gy.1 ∙ eqb-true (k.rules.outstanding q) 0 gy.0.1.1.1.0);
+          ap (λ (z : HouseState m.State). m.rules.outstanding z.method) gx.1 ∙ eqb-true (m.rules.outstanding p) 0 gx.0.1.1.1.0
+          ∙ sym (ap (λ (z : HouseState k.State). k.rules.outstanding z.method) gy.1 ∙ eqb-true (k.rules.outstanding q) 0 gy.0.1.1.1.0);
     } in
     let r = run_agrees m k ml kl rule calls no_cut no_cut x y hx hy sa in
-    let h = r.1.hall in (
+    let h = r.1.cells in (
       r.0,
       record {
         phase = r.1.phase;
-        station_count = ap (λ (z : Hall). z.n) h;
-        tray_cells = ap (λ (z : Hall). z.tray_cells) h;
-        late_cells = ap (λ (z : Hall). z.late_cells) h;
-        sheets = ap (λ (z : Hall). z.sheets) h;
-        recorded = ap (λ (z : Hall). z.recorded) h;
-        stations = ap (λ (z : Hall). z.stations) h;
-        tray = ap (λ (z : Hall). z.tray) h;
-        late = ap (λ (z : Hall). z.late) h;
+        station_count = ap (λ (z : Cells). z.n) h;
+        tray_cells = ap (λ (z : Cells). z.tray_cells) h;
+        late_cells = ap (λ (z : Cells). z.late_cells) h;
+        sheets = ap (λ (z : Cells). z.sheets) h;
+        recorded = ap (λ (z : Cells). z.recorded) h;
+        stations = ap (λ (z : Cells). z.stations) h;
+        tray = ap (λ (z : Cells). z.tray) h;
+        late = ap (λ (z : Cells). z.late) h;
       },
     )

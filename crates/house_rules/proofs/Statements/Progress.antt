@@ -1,4 +1,4 @@
--- How far a count is by the accepted calls, against the marks of the hall.
+-- How far a count is by the granted calls, against the marks in the cells.
 use Rattle.std.proofs.Common.{◌≡◌, ℕ, ◌+◌, ◌-◌, ◌<◌, Bool, true, false, cond, eqb, ltb, map, length, get_or, set, Some, None, Option, sym, refl, ap, ◌∙◌, subst, arith}
 use mathlib.Core.Path.{fun_ext}
 use Rattle.std.proofs.lemmas.List.{length-set, length-map}
@@ -13,20 +13,20 @@ use Rattle.house_rules.specs.declared.phase.Phase.TheVariants.{Counting}
 use Rattle.house_rules.specs.declared.slip.ColouredSlip.{ColouredSlip}
 use Rattle.house_rules.specs.declared.station.Station.{Station}
 use Rattle.house_rules.specs.Calls.EveryCall.{Call, house_questions, after, enter, post, take, open', turn, gather, report, close, file}
-use Rattle.house_rules.specs.State.Changes.{with_messages, with_hall}
+use Rattle.house_rules.specs.State.Changes.{with_messages, with_cells}
 use Rattle.house_rules.specs.Theorem.Cut.{put, Cut}
-use Rattle.house_rules.specs.Calls.Gather.{gathered_station, gathered_hall, root_gathers, after_gather}
+use Rattle.house_rules.specs.Calls.Gather.{gathered_station, gathered_cells, root_gathers, after_gather}
 use Rattle.house_rules.specs.State.Names.{find, find_coloured, slips_of}
-use Rattle.house_rules.specs.Calls.Open.{cleared_station, cleared, opened_hall}
+use Rattle.house_rules.specs.Calls.Open.{cleared_station, cleared, opened_cells}
 use Rattle.house_rules.specs.Calls.Post.{posted_station}
 use Rattle.house_rules.specs.Theorem.Progress.{Progress, late_take, one_more, progress_after}
-use Rattle.house_rules.specs.Calls.Report.{reported_station, reported_hall}
-use Rattle.house_rules.specs.State.House.{Hall, House, fresh, at, sheet_at, is_counting}
-use Rattle.house_rules.specs.Calls.Take.{is_late, turns_receiver, take_questions, took_station, late_station, arrives, arrives_late, arrived, taken_hall, under_way}
+use Rattle.house_rules.specs.Calls.Report.{reported_station, reported_cells}
+use Rattle.house_rules.specs.State.House.{Cells, HouseState, fresh, station_at, sheet_at, is_counting}
+use Rattle.house_rules.specs.Calls.Take.{is_late, turns_receiver, take_questions, took_station, late_station, arrives, arrives_late, arrived, taken_cells, under_way}
 use Rattle.house_rules.specs.Calls.Turn.{turned_station, turns}
 use Rattle.house_rules.proofs.Calls.EveryCall.{own_name}
 use Rattle.common.proofs.AllYes.{AllYes, told_tested}
-use Rattle.house_rules.proofs.Invariant.Halls.{field_put, field_kept, find_coloured_lem}
+use Rattle.house_rules.proofs.Invariant.Cells.{field_put, field_kept, find_coloured_lem}
 use Rattle.house_rules.proofs.Invariant.Phases.{is_counting_lem, is_closed_lem}
 use Rattle.house_rules.proofs.Calls.OpenGatherReportFile.{mapped}
 use Rattle.house_rules.proofs.Lists.Slips.{find_named}
@@ -34,35 +34,35 @@ use Rattle.house_rules.proofs.Invariant.Sound.{Sound}
 use Rattle.house_rules.proofs.Calls.Take.{late?}
 use Rattle.house_rules.proofs.Calls.Turn.{during_of}
 
--- the progress that the accepted calls tell is the one that the hall is marked with
-pub record Kept (g : Progress) (p : Phase) (h : Hall) : Type 0 where
+-- the progress that the granted calls tell is the one that the cells are marked with
+pub record Kept (g : Progress) (p : Phase) (h : Cells) : Type 0 where
   pub opened : g.open? ≡ is_counting p
-  pub gathered : g.gathered ≡ (λ s. (at h s).gathered)
-  pub late_takes : (s : ℕ) → g.late_takes s ≡ g.reports s + (at h s).unreported
+  pub gathered : g.gathered ≡ (λ s. (station_at h s).gathered)
+  pub late_takes : (s : ℕ) → g.late_takes s ≡ g.reports s + (station_at h s).unreported
 
 -- a change of one station that keeps the two marks
-pub kept_set : (g : Progress) (p : Phase) (h : Hall) (s : ℕ) (st : Station) → s < length h.stations → st.gathered ≡ (at h s).gathered → st.unreported ≡ (at h s).unreported → Kept g p h → (◌≡◌ {A = ℕ → Bool} g.gathered (λ t. (get_or (set h.stations s st) t fresh).gathered)) × ((t : ℕ) → g.late_takes t ≡ g.reports t + (get_or (set h.stations s st) t fresh).unreported)
+pub kept_set : (g : Progress) (p : Phase) (h : Cells) (s : ℕ) (st : Station) → s < length h.stations → st.gathered ≡ (station_at h s).gathered → st.unreported ≡ (station_at h s).unreported → Kept g p h → (◌≡◌ {A = ℕ → Bool} g.gathered (λ t. (get_or (set h.stations s st) t fresh).gathered)) × ((t : ℕ) → g.late_takes t ≡ g.reports t + (get_or (set h.stations s st) t fresh).unreported)
 kept_set g p h s st l e u k = (
   k.gathered ∙ sym (field_kept (λ t. t.gathered) h.stations s st l e),
   λ t. k.late_takes t ∙ ap (λ f. g.reports t + f t) (sym (field_kept (λ t. t.unreported) h.stations s st l u)),
 )
 
-module _ (r : Rule) (c : Cut) (g : Progress) (p : Phase) (h : Hall) (out : ℕ) (so : Sound r c p h out) (k : Kept g p h) where
+module _ (r : Rule) (c : Cut) (g : Progress) (p : Phase) (h : Cells) (out : ℕ) (so : Sound r c p h out) (k : Kept g p h) where
   below : (s : ℕ) → s < h.n → s < length h.stations
   below s lt = rw so.shape.stations lt
 
   turns_kept : (s : ℕ) → s < h.n → Kept g p (turns h s)
-  turns_kept s lt = let m = kept_set g p h s (turned_station (at h s)) (below s lt) refl refl k in record { opened = k.opened; gathered = m.0; late_takes = m.1 }
+  turns_kept s lt = let m = kept_set g p h s (turned_station (station_at h s)) (below s lt) refl refl k in record { opened = k.opened; gathered = m.0; late_takes = m.1 }
 
-  arrives_kept : (h₁ : Hall) (x : ColouredSlip) → x.slip.receiver < length h₁.stations → Kept g p h₁ → Kept g p (arrives h₁ x)
-  arrives_kept h₁ x l k₁ = let m = kept_set g p h₁ x.slip.receiver (took_station (at h₁ x.slip.receiver)) l refl refl k₁ in record { opened = k₁.opened; gathered = m.0; late_takes = m.1 }
+  arrives_kept : (h₁ : Cells) (x : ColouredSlip) → x.slip.receiver < length h₁.stations → Kept g p h₁ → Kept g p (arrives h₁ x)
+  arrives_kept h₁ x l k₁ = let m = kept_set g p h₁ x.slip.receiver (took_station (station_at h₁ x.slip.receiver)) l refl refl k₁ in record { opened = k₁.opened; gathered = m.0; late_takes = m.1 }
 
   late_kept : (x : ColouredSlip) → x.slip.receiver < h.n → Kept (record { open? = g.open?; gathered = g.gathered; late_takes = one_more g.late_takes x.slip.receiver; reports = g.reports }) p (arrives_late h x)
   late_kept x lt =
       record {
         opened = k.opened;
-        gathered = k.gathered ∙ sym (field_kept (λ t. t.gathered) h.stations x.slip.receiver (late_station (at h x.slip.receiver)) (below _ lt) refl);
-        late_takes = λ t. let e = ap (λ f. f t) (field_put (λ t. t.unreported) h.stations x.slip.receiver (late_station (at h x.slip.receiver)) (below _ lt)) in let a = k.late_takes t in let b = k.late_takes x.slip.receiver in rw e (grind (arith, nat_tests));
+        gathered = k.gathered ∙ sym (field_kept (λ t. t.gathered) h.stations x.slip.receiver (late_station (station_at h x.slip.receiver)) (below _ lt) refl);
+        late_takes = λ t. let e = ap (λ f. f t) (field_put (λ t. t.unreported) h.stations x.slip.receiver (late_station (station_at h x.slip.receiver)) (below _ lt)) in let a = k.late_takes t in let b = k.late_takes x.slip.receiver in rw e (grind (arith, nat_tests));
       }
 
   -- the house's own test for a late slip is the progress's
@@ -99,77 +99,77 @@ module _ (r : Rule) (c : Cut) (g : Progress) (p : Phase) (h : Hall) (out : ℕ) 
 
       go : (b : Bool) → is_late p h x ≡ b → (t : Bool) → turns_receiver p h x ≡ t → Kept (progress_after c g (take x.slip.sender x.slip.number)) p (arrived p h x)
       go true e t et = subst (λ y. Kept y p (arrived p h x)) (sym (book true e)) (subst (λ y. Kept (with' true) p y) (let w : arrived p h x ≡ arrives_late h x = rw e in sym w) (late_kept x lt))
-      go false e true et = subst (λ y. Kept y p (arrived p h x)) (sym (book false e)) (subst (λ y. Kept g p y) (let w : arrived p h x ≡ arrives (turns h x.slip.receiver) x = rw (e, et) in sym w) (arrives_kept (turns h x.slip.receiver) x (rw (length-set h.stations x.slip.receiver (turned_station (at h x.slip.receiver))) (below _ lt)) (turns_kept x.slip.receiver lt)))
+      go false e true et = subst (λ y. Kept y p (arrived p h x)) (sym (book false e)) (subst (λ y. Kept g p y) (let w : arrived p h x ≡ arrives (turns h x.slip.receiver) x = rw (e, et) in sym w) (arrives_kept (turns h x.slip.receiver) x (rw (length-set h.stations x.slip.receiver (turned_station (station_at h x.slip.receiver))) (below _ lt)) (turns_kept x.slip.receiver lt)))
       go false e false et = subst (λ y. Kept y p (arrived p h x)) (sym (book false e)) (subst (λ y. Kept g p y) (let w : arrived p h x ≡ arrives h x = rw (e, et) in sym w) (arrives_kept h x (below _ lt) k))
 
-  taken_kept : (a b : ℕ) (o : Option ColouredSlip) → under_way h a b ≡ o → AllYes (take_questions r p h o) → Kept (progress_after c g (take a b)) p (taken_hall p h o)
+  taken_kept : (a b : ℕ) (o : Option ColouredSlip) → under_way h a b ≡ o → AllYes (take_questions r p h o) → Kept (progress_after c g (take a b)) p (taken_cells p h o)
   taken_kept a b None s y = absurd (true≢false (sym y.0))
   taken_kept a b (Some x) s y =
       let n = find_named a b (slips_of h.tray) x.slip (find_coloured_lem a b h.tray x s) in
       let t = arrived_kept x (own_name a b h.tray x s) (told_tested section_code (r.credit (sheet_at h x.slip.receiver) x.slip.line x.slip.amount) y.1) in
       subst (λ k. Kept (progress_after c g (take k b)) p (arrived p h x)) n.0 (subst (λ k. Kept (progress_after c g (take x.slip.sender k)) p (arrived p h x)) n.1 t)
 
-  gather_kept : (s messages : ℕ) → ltb s h.n ≡ true → Kept (progress_after c g (gather s)) p (with_messages (gathered_hall h s) messages)
+  gather_kept : (s messages : ℕ) → ltb s h.n ≡ true → Kept (progress_after c g (gather s)) p (with_messages (gathered_cells h s) messages)
   gather_kept s messages lt =
       let ls = below s (ltb-true s h.n lt) in
       record {
         opened = k.opened;
-        gathered = ap (λ f. put f s true) k.gathered ∙ sym (field_put (λ t. t.gathered) h.stations s (gathered_station (at h s)) ls);
-        late_takes = λ t. k.late_takes t ∙ ap (λ f. g.reports t + f t) (sym (field_kept (λ t. t.unreported) h.stations s (gathered_station (at h s)) ls refl));
+        gathered = ap (λ f. put f s true) k.gathered ∙ sym (field_put (λ t. t.gathered) h.stations s (gathered_station (station_at h s)) ls);
+        late_takes = λ t. k.late_takes t ∙ ap (λ f. g.reports t + f t) (sym (field_kept (λ t. t.unreported) h.stations s (gathered_station (station_at h s)) ls refl));
       }
 
-  report_kept : (s messages : ℕ) → ltb s h.n ≡ true → 0 < (at h s).unreported → Kept (progress_after c g (report s)) p (with_messages (reported_hall h s) messages)
+  report_kept : (s messages : ℕ) → ltb s h.n ≡ true → 0 < (station_at h s).unreported → Kept (progress_after c g (report s)) p (with_messages (reported_cells h s) messages)
   report_kept s messages lt some' =
       let ls = below s (ltb-true s h.n lt) in
       record {
         opened = k.opened;
-        gathered = k.gathered ∙ sym (field_kept (λ t. t.gathered) h.stations s (reported_station (at h s)) ls refl);
-        late_takes = λ t. let e = ap (λ f. f t) (field_put (λ t. t.unreported) h.stations s (reported_station (at h s)) ls) in let a = k.late_takes t in rw e (one t (eqb t s) refl some');
+        gathered = k.gathered ∙ sym (field_kept (λ t. t.gathered) h.stations s (reported_station (station_at h s)) ls refl);
+        late_takes = λ t. let e = ap (λ f. f t) (field_put (λ t. t.unreported) h.stations s (reported_station (station_at h s)) ls) in let a = k.late_takes t in rw e (one t (eqb t s) refl some');
       }
     where
-      one : (t : ℕ) (b : Bool) → eqb t s ≡ b → 0 < (at h s).unreported → g.late_takes t ≡ one_more g.reports s t + put (λ t. (at h t).unreported) s ((at h s).unreported - 1) t
+      one : (t : ℕ) (b : Bool) → eqb t s ≡ b → 0 < (station_at h s).unreported → g.late_takes t ≡ one_more g.reports s t + put (λ t. (station_at h t).unreported) s ((station_at h s).unreported - 1) t
       one t true w l = let u = eqb-true t s w in rw (w, u) (let a = k.late_takes s in omega arith)
       one t false w l = rw w (k.late_takes t)
 
-  open_kept : (s : ℕ) → ltb s h.n ≡ true → Kept (progress_after c g (open' s)) Counting (opened_hall h s)
+  open_kept : (s : ℕ) → ltb s h.n ≡ true → Kept (progress_after c g (open' s)) Counting (opened_cells h s)
   open_kept s lt =
       let ls : s < length (map cleared_station h.stations) = rw (length-map h.stations cleared_station) (below s (ltb-true s h.n lt)) in
-      let st = turned_station (at (cleared h) s) in
+      let st = turned_station (station_at (cleared h) s) in
       record {
         opened = refl;
         gathered = sym (field_kept (λ t. t.gathered) (map cleared_station h.stations) s st ls refl ∙ fun_ext (λ t. ap (λ u. u.gathered) (mapped h.stations t)));
         late_takes = λ t. let e : (get_or (set (map cleared_station h.stations) s st) t fresh).unreported ≡ 0 = ap (λ f. f t) (field_kept (λ t. t.unreported) (map cleared_station h.stations) s st ls refl) ∙ ap (λ u. u.unreported) (mapped h.stations t) in omega arith;
       }
 
-module _ (m : Model) (rule : Rule) (c : Cut) (g : Progress) (x : House m.State) (so : Sound rule c x.phase x.hall (m.rules.outstanding x.method)) (k : Kept g x.phase x.hall) where
+module _ (m : Model) (rule : Rule) (c : Cut) (g : Progress) (x : HouseState m.State) (so : Sound rule c x.phase x.cells (m.rules.outstanding x.method)) (k : Kept g x.phase x.cells) where
   abbrev p : Phase
   p = x.phase
 
-  abbrev h : Hall
-  h = x.hall
+  abbrev h : Cells
+  h = x.cells
 
   abbrev out : ℕ
   out = m.rules.outstanding x.method
 
-  gathered_kept : (s : ℕ) → ltb s x.hall.n ≡ true → Kept (progress_after c g (gather s)) (after_gather m x s).phase (after_gather m x s).hall
+  gathered_kept : (s : ℕ) → ltb s x.cells.n ≡ true → Kept (progress_after c g (gather s)) (after_gather m x s).phase (after_gather m x s).cells
   gathered_kept s lt = go (eqb s 0)
     where
-      go : (b : Bool) → Kept (progress_after c g (gather s)) (cond b (root_gathers m x s) (with_hall x (gathered_hall x.hall s))).phase (cond b (root_gathers m x s) (with_hall x (gathered_hall x.hall s))).hall
+      go : (b : Bool) → Kept (progress_after c g (gather s)) (cond b (root_gathers m x s) (with_cells x (gathered_cells x.cells s))).phase (cond b (root_gathers m x s) (with_cells x (gathered_cells x.cells s))).cells
       go true = gather_kept rule c g p h out so k s _ lt
-      go false = gather_kept rule c g p h out so k s x.hall.messages lt
+      go false = gather_kept rule c g p h out so k s x.cells.messages lt
 
-  pub accepted_kept : (call : Call) → AllYes (house_questions rule x.phase x.hall (m.rules.outstanding x.method) call) → Kept (progress_after c g call) (after m rule x call).phase (after m rule x call).hall
-  accepted_kept (enter s a b r) y = record { opened = k.opened; gathered = k.gathered; late_takes = k.late_takes }
-  accepted_kept (post s to line amount) y =
+  pub granted_kept : (call : Call) → AllYes (house_questions rule x.phase x.cells (m.rules.outstanding x.method) call) → Kept (progress_after c g call) (after m rule x call).phase (after m rule x call).cells
+  granted_kept (enter s a b r) y = record { opened = k.opened; gathered = k.gathered; late_takes = k.late_takes }
+  granted_kept (post s to line amount) y =
       let q = and_parts _ _ y.0 in
-      let e = kept_set g p h s (posted_station (at h s)) (rw so.shape.stations (ltb-true s h.n q.0)) refl refl k in
+      let e = kept_set g p h s (posted_station (station_at h s)) (rw so.shape.stations (ltb-true s h.n q.0)) refl refl k in
       record { opened = k.opened; gathered = e.0; late_takes = e.1 }
-  accepted_kept (take a b) y = taken_kept rule c g p h out so k a b (under_way h a b) refl y
-  accepted_kept (open' s) y = open_kept rule c g p h out so k s y.0
-  accepted_kept (turn s) y = turns_kept rule c g p h out so k s (ltb-true s h.n y.0)
-  accepted_kept (gather s) y = gathered_kept s y.0
-  accepted_kept (report s) y = report_kept rule c g p h out so k s _ y.0 (ltb-true 0 (at h s).unreported y.1.1.1.0)
-  accepted_kept close y = record { opened = refl; gathered = k.gathered; late_takes = k.late_takes }
-  accepted_kept (file told text) y =
+  granted_kept (take a b) y = taken_kept rule c g p h out so k a b (under_way h a b) refl y
+  granted_kept (open' s) y = open_kept rule c g p h out so k s y.0
+  granted_kept (turn s) y = turns_kept rule c g p h out so k s (ltb-true s h.n y.0)
+  granted_kept (gather s) y = gathered_kept s y.0
+  granted_kept (report s) y = report_kept rule c g p h out so k s _ y.0 (ltb-true 0 (station_at h s).unreported y.1.1.1.0)
+  granted_kept close y = record { opened = refl; gathered = k.gathered; late_takes = k.late_takes }
+  granted_kept (file late_on_receipt text) y =
       let q = and_parts _ _ y.0 in
       record { opened = k.opened ∙ ap is_counting (is_closed_lem p q.0); gathered = k.gathered; late_takes = k.late_takes }

@@ -12,4 +12,4 @@ use Rattle.house_rules.specs.Theorem.WorkedHistory.{WorkedHistory}
 
 pub worked_history : WorkedHistory
 unfolding digits dealt climb turned_yellow arrival sums sheet_lines record_lines slip_lines score_lines
-worked_history = record { made = refl; told = refl; recorded = refl; late = refl; before = refl; after = refl; phase = refl; told_second = refl; recorded_second = refl; late_second = refl; before_second = refl; after_second = refl; phase_second = refl }
+worked_history = record { made = refl; answered = refl; recorded = refl; late = refl; before = refl; after = refl; phase = refl; answered_second = refl; recorded_second = refl; late_second = refl; before_second = refl; after_second = refl; phase_second = refl }

@@ -7,7 +7,7 @@ use Rattle.house_rules.specs.declared.slip.ColouredSlip.{ColouredSlip}
 use Rattle.house_rules.specs.declared.station.Station.{Station}
 
 -- what the cells of a house hold
-pub record Hall : Type 0 where
+pub record Cells : Type 0 where
   pub n : ℕ  -- the stations are 0 to n - 1
   pub tray_cells : ℕ  -- room for slips under way
   pub late_cells : ℕ  -- room for late slips
@@ -18,10 +18,10 @@ pub record Hall : Type 0 where
   pub late : List ColouredSlip  -- the late slips of the count, in order of arrival
   pub messages : ℕ  -- control messages since the count was opened
 
--- a house: its phase, its hall and the state of its counting method
-pub record House (Q : Type 0) : Type 0 where
+-- a house: its phase, its cells and the state of its counting method
+pub record HouseState (Q : Type 0) : Type 0 where
   pub phase : Phase
-  pub hall : Hall
+  pub cells : Cells
   pub method : Q
 
 -- a station that has done nothing yet
@@ -29,11 +29,11 @@ abbrev pub fresh : Station
 fresh = record { colour = White; posted = 0; running = pos 0; frozen = pos 0; unreported = 0; turned = false; gathered = false }
 
 -- station s, and its sheet
-abbrev pub at : Hall → (s : ℕ) → Station
-at h s = slice_index_or h.stations s fresh
+abbrev pub station_at : Cells → (s : ℕ) → Station
+station_at cells s = slice_index_or cells.stations s fresh
 
-abbrev pub sheet_at : Hall → (s : ℕ) → List ℤ
-sheet_at h s = slice_index_or h.sheets s []
+abbrev pub sheet_at : Cells → (s : ℕ) → List ℤ
+sheet_at cells s = slice_index_or cells.sheets s []
 
 abbrev pub is_ready : Phase → Bool
 is_ready Ready = true

@@ -1,6 +1,6 @@
--- The cut that a count makes, read off the accepted calls alone.
+-- The cut that a count makes, read off the granted calls alone.
 use Rattle.std.specs.Prelude.{ℕ, ◌+◌, Bool, true, false, cond, ◌||◌, List, [], ◌∷◌, ◌++◌, ◌==◌}
-use Rattle.house_rules.specs.State.Names.{same}
+use Rattle.house_rules.specs.State.Names.{same_name}
 use Rattle.house_rules.specs.Theorem.PlainHouse.{Event, enters, posts, takes}
 use Rattle.house_rules.specs.Calls.EveryCall.{Call, enter, post, take, open', turn, gather, report, close, file}
 
@@ -8,17 +8,17 @@ use Rattle.house_rules.specs.Calls.EveryCall.{Call, enter, post, take, open', tu
 abbrev pub put : {X : Type 0} → (ℕ → X) → ℕ → X → ℕ → X
 put f s v t = cond (t == s) v (f t)
 
-abbrev pub put2 : {X : Type 0} → (ℕ → ℕ → X) → ℕ → ℕ → X → ℕ → ℕ → X
-put2 f a b v x y = cond (same a b x y) v (f x y)
+abbrev pub put_slip : {X : Type 0} → (ℕ → ℕ → X) → ℕ → ℕ → X → ℕ → ℕ → X
+put_slip f a b v x y = cond (same_name a b x y) v (f x y)
 
 -- the present count is the one opened last: from its close until the next open the fields still describe it
 pub record Cut : Type 0 where
-  pub all : List Event  -- every accepted enter, post and take
+  pub all : List Event  -- every granted enter, post and take
   pub before : List Event  -- those before their stations' turns for the present count, in the old order
   pub after : List Event  -- the rest, in the old order
   pub turned : ℕ → Bool  -- the stations that have turned in the present count
   pub new : ℕ → ℕ → Bool  -- the slips posted in it by stations that had turned; every other slip is old-coloured
-  pub posted : ℕ → ℕ  -- how many posts of a station were accepted
+  pub posted : ℕ → ℕ  -- how many posts of a station were granted
   pub receiver : ℕ → ℕ → ℕ  -- the receiver of each slip posted
 
 abbrev pub no_cut : Cut
@@ -33,7 +33,7 @@ with_turned c t = record { all = c.all; before = c.before; after = c.after; turn
 
 -- station s posts its slip number k
 abbrev pub with_post : Cut → (s to k : ℕ) → Cut
-with_post c s to k = record { all = c.all; before = c.before; after = c.after; turned = c.turned; new = put2 c.new s k (c.turned s); posted = put c.posted s k; receiver = put2 c.receiver s k to }
+with_post c s to k = record { all = c.all; before = c.before; after = c.after; turned = c.turned; new = put_slip c.new s k (c.turned s); posted = put c.posted s k; receiver = put_slip c.receiver s k to }
 
 -- a count is opened: all events so far are before it, and one station has turned
 abbrev pub with_open : Cut → (s : ℕ) → Cut
@@ -52,12 +52,12 @@ cut_after c (turn s) = with_turned c (put c.turned s true)
 cut_after c (gather s) = c
 cut_after c (report s) = c
 cut_after c close = c
-cut_after c (file told text) = c
+cut_after c (file late_on_receipt text) = c
 
 abbrev pub cut_after_all : Cut → List Call → Cut
 cut_after_all c [] = c
 cut_after_all c (call ∷ calls) = cut_after_all (cut_after c call) calls
 
--- the cut after the accepted calls
+-- the cut after the granted calls
 abbrev pub cut_of : List Call → Cut
 cut_of calls = cut_after_all no_cut calls

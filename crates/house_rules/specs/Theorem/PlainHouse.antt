@@ -7,7 +7,7 @@ use Rattle.house_rules.specs.State.Names.{find, without}
 
 pub record PlainHouse : Type 0 where
   pub sheets : List (List ℤ)
-  pub posted : List ℕ  -- each station's accepted posts so far
+  pub posted : List ℕ  -- each station's granted posts so far
   pub under_way : List Slip
 
 pub data Event : Type 0 where

@@ -1,4 +1,4 @@
--- How far the present count is, read off the accepted calls alone.
+-- How far the present count is, read off the granted calls alone.
 use Rattle.std.specs.Prelude.{◌≡◌, ℕ, ◌+◌, ◌<◌, Bool, true, false, cond, not, ◌&&◌, List, [], ◌∷◌}
 use Rattle.std.specs.List.{AllByRecursion}
 use Rattle.house_rules.specs.declared.slip.Slip.{Slip}
@@ -31,7 +31,7 @@ progress_after c g (turn s) = g
 progress_after c g (gather s) = record { open? = g.open?; gathered = put g.gathered s true; late_takes = g.late_takes; reports = g.reports }
 progress_after c g (report s) = record { open? = g.open?; gathered = g.gathered; late_takes = g.late_takes; reports = one_more g.reports s }
 progress_after c g close = record { open? = false; gathered = g.gathered; late_takes = g.late_takes; reports = g.reports }
-progress_after c g (file told text) = g
+progress_after c g (file late_on_receipt text) = g
 
 abbrev pub progress_after_all : Cut → Progress → List Call → Progress
 progress_after_all c g [] = g

@@ -1,30 +1,29 @@
--- A hall as the plain house sees it, and what each call does to that.
-use Rattle.std.proofs.Common.{◌≡◌, ℕ, ◌+◌, ◌<◌, ◌≤◌, Bool, true, false, cond, eqb, List, [], ◌∷◌, ◌++◌, length, get_or, set, ℤ, Some, None, Option, sym, refl, ap, ◌∙◌, subst, arith}
+-- The cells as the plain house sees them, and what each call does to that.
+use Rattle.std.proofs.Common.{◌≡◌, ℕ, ◌+◌, ◌<◌, ◌≤◌, Bool, true, false, cond, eqb, List, [], ◌∷◌, ◌++◌, length, get_or, set, ℤ, Some, None, Option, sym, refl, ap, ◌∙◌, arith}
 use mathlib.Core.Path.{fun_ext}
 use Rattle.std.proofs.lemmas.List.{map-append, length-set}
-use Rattle.std.specs.List.{AllByRecursion}
 use Rattle.common.specs.Questions.{all_yes}
 use Rattle.sections.specs.Rule.{Rule}
 use Rattle.house_rules.specs.declared.slip.ColouredSlip.{ColouredSlip}
 use Rattle.house_rules.specs.declared.slip.Slip.{Slip}
 use Rattle.house_rules.specs.declared.station.Station.{Station}
-use Rattle.house_rules.specs.Theorem.Cut.{put, put2}
-use Rattle.house_rules.specs.Calls.Enter.{entered_hall}
+use Rattle.house_rules.specs.Theorem.Cut.{put, put_slip}
+use Rattle.house_rules.specs.Calls.Enter.{entered_cells}
 use Rattle.house_rules.specs.State.Names.{named, find, without, find_coloured, without_coloured, slips_of}
-use Rattle.house_rules.specs.Calls.Post.{posted_slip, posted_hall}
-use Rattle.house_rules.specs.State.House.{Hall, fresh, at, sheet_at}
+use Rattle.house_rules.specs.Calls.Post.{posted_slip, posted_cells}
+use Rattle.house_rules.specs.State.House.{Cells, fresh, station_at, sheet_at}
 use Rattle.house_rules.specs.Calls.Take.{took_station, late_station, arrives, arrives_late}
 use Rattle.house_rules.specs.Calls.Turn.{turned_station, turns}
 use Rattle.house_rules.proofs.Invariant.PlainSteps.{get_or-put, put_own, same_view, find_push, find_less}
 use Rattle.house_rules.proofs.Lists.Slips.{Distinct}
 use Rattle.house_rules.proofs.Invariant.PlainHouse.{View, Acts, Numbered, enters', posts', takes'}
 
--- the hall as the plain house sees it
-abbrev pub hall_view : Hall → View
-hall_view h = record { sheet = λ s. sheet_at h s; posted = λ s. (at h s).posted; slips = λ a b. find a b (slips_of h.tray) }
+-- the cells as the plain house sees them
+abbrev pub cells_view : Cells → View
+cells_view h = record { sheet = λ s. sheet_at h s; posted = λ s. (station_at h s).posted; slips = λ a b. find a b (slips_of h.tray) }
 
 -- 1 to 64 stations, and as many sheets, recorded sheets and stations
-pub record Shape (h : Hall) : Type 0 where
+pub record Shape (h : Cells) : Type 0 where
   pub some' : 0 < h.n
   pub few : h.n ≤ 64
   pub sheets : length h.sheets ≡ h.n
@@ -53,14 +52,6 @@ find_coloured_lem a b (y ∷ ys) x e = let ih = find_coloured_lem a b ys x in go
     go true t ih = rw t (let s : y ≡ x = cc in ap (λ k. Some k.slip) s)
     go false t ih = rw t (ih (cc))
 
-pub all_coloured : (P : ColouredSlip → Type 0) (a b : ℕ) (xs : List ColouredSlip) (x : ColouredSlip) → AllByRecursion P xs → find_coloured a b xs ≡ Some x → P x
-all_coloured P a b [] x h e = let z : ◌≡◌ {A = ℕ} 0 1 = cc in absurd (omega arith)
-all_coloured P a b (y ∷ ys) x h e = let ih = all_coloured P a b ys x h.1 in go (named a b y.slip) refl ih
-  where
-    go : (t : Bool) → named a b y.slip ≡ t → (find_coloured a b ys ≡ Some x → P x) → P x
-    go true t ih = let s : y ≡ x = cc in subst P s h.0
-    go false t ih = ih (cc)
-
 pub slips_less : (a b : ℕ) (xs : List ColouredSlip) → slips_of (without_coloured a b xs) ≡ without a b (slips_of xs)
 slips_less a b [] = refl
 slips_less a b (x ∷ xs) = let ih = slips_less a b xs in go (named a b x.slip) ih
@@ -72,26 +63,26 @@ slips_less a b (x ∷ xs) = let ih = slips_less a b xs in go (named a b x.slip) 
 pub slips_push : (xs : List ColouredSlip) (x : ColouredSlip) → slips_of (xs ++ x ∷ []) ≡ slips_of xs ++ x.slip ∷ []
 slips_push xs x = map-append (λ (y : ColouredSlip). y.slip) xs (x ∷ [])
 
-module _ (r : Rule) (h : Hall) (sh : Shape h) where
-  pub enter_acts : (s a b : ℕ) (code : ℤ) → s < h.n → all_yes (r.entry (sheet_at h s) a b code) ≡ true → Acts h.n r (hall_view h) (enters' s a b code) (hall_view (entered_hall r h s a b code))
+module _ (r : Rule) (h : Cells) (sh : Shape h) where
+  pub enter_acts : (s a b : ℕ) (code : ℤ) → s < h.n → all_yes (r.entry (sheet_at h s) a b code) ≡ true → Acts h.n r (cells_view h) (enters' s a b code) (cells_view (entered_cells r h s a b code))
   enter_acts s a b code lt yes' =
       record {
         within = lt;
         fit = tt;
         grant = yes';
         sheet = get_or-put h.sheets s _ [] (rw sh.sheets lt);
-        posted = sym (put_own (λ t. (at h t).posted) s);
+        posted = sym (put_own (λ t. (station_at h t).posted) s);
         slips = refl;
       }
 
-  pub fresh_name : Numbered (hall_view h) → (s : ℕ) → find s ((at h s).posted + 1) (slips_of h.tray) ≡ None
-  fresh_name given s = go (find s ((at h s).posted + 1) (slips_of h.tray)) refl
+  pub fresh_name : Numbered (cells_view h) → (s : ℕ) → find s ((station_at h s).posted + 1) (slips_of h.tray) ≡ None
+  fresh_name given s = go (find s ((station_at h s).posted + 1) (slips_of h.tray)) refl
     where
-      go : (o : Option Slip) → find s ((at h s).posted + 1) (slips_of h.tray) ≡ o → o ≡ None
+      go : (o : Option Slip) → find s ((station_at h s).posted + 1) (slips_of h.tray) ≡ o → o ≡ None
       go None k = refl
-      go (Some x) k = let l = given s ((at h s).posted + 1) x k in absurd (omega arith)
+      go (Some x) k = let l = given s ((station_at h s).posted + 1) x k in absurd (omega arith)
 
-  pub post_acts : Numbered (hall_view h) → (s to line : ℕ) (amount : ℤ) → s < h.n → to < h.n → all_yes (r.debit (sheet_at h s) line amount) ≡ true → Acts h.n r (hall_view h) (posts' (posted_slip h s to line amount)) (hall_view (posted_hall h s to line amount))
+  pub post_acts : Numbered (cells_view h) → (s to line : ℕ) (amount : ℤ) → s < h.n → to < h.n → all_yes (r.debit (sheet_at h s) line amount) ≡ true → Acts h.n r (cells_view h) (posts' (posted_slip h s to line amount)) (cells_view (posted_cells h s to line amount))
   post_acts p s to line amount lt lr yes' =
       record {
         within = lt;
@@ -100,38 +91,38 @@ module _ (r : Rule) (h : Hall) (sh : Shape h) where
         sheet = get_or-put h.sheets s _ [] (rw sh.sheets lt);
         posted = field_put (λ t. t.posted) h.stations s _ (rw sh.stations lt);
         slips =
-            ap (λ l a b. find a b l) (slips_push h.tray (record { slip = posted_slip h s to line amount; colour = (at h s).colour }))
+            ap (λ l a b. find a b l) (slips_push h.tray (record { slip = posted_slip h s to line amount; colour = (station_at h s).colour }))
             ∙ find_push (slips_of h.tray) (posted_slip h s to line amount) (fresh_name p s);
       }
 
-  pub turn_view : (s : ℕ) → s < h.n → hall_view (turns h s) ≡ hall_view h
-  turn_view s lt = same_view (hall_view (turns h s)) (hall_view h) refl (field_kept (λ t. t.posted) h.stations s (turned_station (at h s)) (rw sh.stations lt) refl) refl
+  pub turn_view : (s : ℕ) → s < h.n → cells_view (turns h s) ≡ cells_view h
+  turn_view s lt = same_view (cells_view (turns h s)) (cells_view h) refl (field_kept (λ t. t.posted) h.stations s (turned_station (station_at h s)) (rw sh.stations lt) refl) refl
 
   pub turn_shape : (s : ℕ) → s < h.n → Shape (turns h s)
   turn_shape s lt = record { some' = sh.some'; few = sh.few; sheets = sh.sheets; recorded = length-set h.recorded s _ ∙ sh.recorded; stations = length-set h.stations s _ ∙ sh.stations }
 
   module _ (x : ColouredSlip) (apart : Distinct (slips_of h.tray)) (has : find x.slip.sender x.slip.number (slips_of h.tray) ≡ Some x.slip) (lt : x.slip.receiver < h.n) (yes' : all_yes (r.credit (sheet_at h x.slip.receiver) x.slip.line x.slip.amount) ≡ true) where
-    less_slips : (λ (a b : ℕ). find a b (slips_of (without_coloured x.slip.sender x.slip.number h.tray))) ≡ put2 (λ a b. find a b (slips_of h.tray)) x.slip.sender x.slip.number None
+    less_slips : (λ (a b : ℕ). find a b (slips_of (without_coloured x.slip.sender x.slip.number h.tray))) ≡ put_slip (λ a b. find a b (slips_of h.tray)) x.slip.sender x.slip.number None
     less_slips = ap (λ l a b. find a b l) (slips_less x.slip.sender x.slip.number h.tray) ∙ find_less (slips_of h.tray) x.slip.sender x.slip.number apart
 
-    pub late_acts : Acts h.n r (hall_view h) (takes' x.slip) (hall_view (arrives_late h x))
+    pub late_acts : Acts h.n r (cells_view h) (takes' x.slip) (cells_view (arrives_late h x))
     late_acts =
         record {
           within = lt;
           fit = has;
           grant = yes';
           sheet = get_or-put h.sheets x.slip.receiver _ [] (rw sh.sheets lt);
-          posted = field_put (λ t. t.posted) h.stations x.slip.receiver (late_station (at h x.slip.receiver)) (rw sh.stations lt);
+          posted = field_put (λ t. t.posted) h.stations x.slip.receiver (late_station (station_at h x.slip.receiver)) (rw sh.stations lt);
           slips = less_slips;
         }
 
-    pub take_acts : Acts h.n r (hall_view h) (takes' x.slip) (hall_view (arrives h x))
+    pub take_acts : Acts h.n r (cells_view h) (takes' x.slip) (cells_view (arrives h x))
     take_acts =
         record {
           within = lt;
           fit = has;
           grant = yes';
           sheet = get_or-put h.sheets x.slip.receiver _ [] (rw sh.sheets lt);
-          posted = field_put (λ t. t.posted) h.stations x.slip.receiver (took_station (at h x.slip.receiver)) (rw sh.stations lt);
+          posted = field_put (λ t. t.posted) h.stations x.slip.receiver (took_station (station_at h x.slip.receiver)) (rw sh.stations lt);
           slips = less_slips;
         }
