@@ -10,7 +10,6 @@ use Rattle.house_rules.specs.declared.slip.Slip.{Slip}
 use Rattle.house_rules.specs.declared.station.Station.{Station}
 use Rattle.house_rules.specs.Theorem.Cut.{put, put_slip, Cut, with_event}
 use Rattle.house_rules.specs.State.Names.{same_name, find, without, without_coloured, slips_of}
-use Rattle.house_rules.specs.Theorem.PlainHouse.{takes}
 use Rattle.house_rules.specs.State.House.{Cells, station_at, sheet_at}
 use Rattle.house_rules.specs.Calls.Take.{took_station, late_station, arrives, arrives_late}
 use Rattle.house_rules.proofs.Invariant.Deficits.{Balance, balance_take_new, balance_take_old, balance_late}
@@ -22,7 +21,8 @@ use Rattle.house_rules.proofs.Lists.Slips.{same_name_true, find_without}
 use Rattle.house_rules.proofs.Invariant.Sound.{Common, Between, Tree, During, Sound}
 use Rattle.house_rules.proofs.Invariant.Cut.{pending, split_later, split_sooner}
 use Rattle.house_rules.proofs.Lists.Totals.{sum_z, sum_z_put, count, count_less}
-use Rattle.house_rules.proofs.Invariant.PlainHouse.{Acts, takes'}
+use Rattle.house_rules.proofs.Invariant.PlainHouse.{Acts, take'}
+use Rattle.house_rules.specs.Calls.Event.{take}
 
 module _ (r : Rule) (c : Cut) (p : Phase) (h : Cells) (out : ℕ) (so : Sound r c p h out) (x : ColouredSlip) (has : find x.slip.sender x.slip.number (slips_of h.tray) ≡ Some x.slip) (yes' : all_yes (r.credit (sheet_at h x.slip.receiver) x.slip.line x.slip.amount) ≡ true) where
   within : x.slip.receiver < h.n
@@ -48,12 +48,12 @@ module _ (r : Rule) (c : Cut) (p : Phase) (h : Cells) (out : ℕ) (so : Sound r 
   pub arrives_shape : Shape (arrives h x)
   arrives_shape = record { some' = so.shape.some'; few = so.shape.few; sheets = length-set h.sheets x.slip.receiver _ ∙ so.shape.sheets; recorded = so.shape.recorded; stations = length-set h.stations x.slip.receiver _ ∙ so.shape.stations }
 
-  arrives_act : Acts h.n r (cells_view h) (takes' x.slip) (cells_view (arrives h x))
+  arrives_act : Acts h.n r (cells_view h) (take' x.slip) (cells_view (arrives h x))
   arrives_act = take_acts r h so.shape x so.common.naming.apart has within yes'
 
-  pub arrives_common : Common h.n r (c.all ++ takes x.slip.sender x.slip.number ∷ []) c.posted c.receiver (cells_view (arrives h x)) (slips_of (without_coloured x.slip.sender x.slip.number h.tray)) (slips_of h.late)
+  pub arrives_common : Common h.n r (c.all ++ take x.slip.sender x.slip.number ∷ []) c.posted c.receiver (cells_view (arrives h x)) (slips_of (without_coloured x.slip.sender x.slip.number h.tray)) (slips_of h.late)
   arrives_common =
-      common_act h.n r c.all c.posted c.posted c.receiver c.receiver (cells_view h) (cells_view (arrives h x)) (slips_of h.tray) _ (slips_of h.late) (slips_of h.late) (takes' x.slip) so.common arrives_act
+      common_act h.n r c.all c.posted c.posted c.receiver c.receiver (cells_view h) (cells_view (arrives h x)) (slips_of h.tray) _ (slips_of h.late) (slips_of h.late) (take' x.slip) so.common arrives_act
       (subst (λ l. Naming h.n (λ t. (station_at (arrives h x) t).posted) l (slips_of h.late)) (sym tray_is) (subst (λ p. Naming h.n p (without x.slip.sender x.slip.number (slips_of h.tray)) (slips_of h.late)) (sym posted_is) (naming_less h.n _ _ _ so.common.naming x.slip.sender x.slip.number)))
       (λ t. so.common.sent_is t ∙ ap (λ g. g t) (sym posted_is))
       goes_less
@@ -100,12 +100,12 @@ module _ (r : Rule) (c : Cut) (p : Phase) (h : Cells) (out : ℕ) (so : Sound r 
     slips_at a b = ap (λ g. g a b) arrives_act.slips
 
     -- a new slip at a station that has turned
-    pub arrives_new : c.turned x.slip.receiver ≡ true → c.new x.slip.sender x.slip.number ≡ true → During r (with_event c true (takes x.slip.sender x.slip.number)) (arrives h x) out
+    pub arrives_new : c.turned x.slip.receiver ≡ true → c.new x.slip.sender x.slip.number ≡ true → During r (with_event c true (take x.slip.sender x.slip.number)) (arrives h x) out
     arrives_new tu nw =
         record {
           base = k.base;
           colouring = arrives_colouring;
-          split = split_later _ _ _ _ _ _ _ _ _ _ k.split (takes' x.slip) (cells_view (arrives h x)) (slips_of h.late) c.new arrives_act tu tt (λ _ _ q. q) (λ a b. pend a b (same_name x.slip.sender x.slip.number a b) refl);
+          split = split_later _ _ _ _ _ _ _ _ _ _ k.split (take' x.slip) (cells_view (arrives h x)) (slips_of h.late) c.new arrives_act tu tt (λ _ _ q. q) (λ a b. pend a b (same_name x.slip.sender x.slip.number a b) refl);
           balance = arrives_balance _ _ (balance_take_new _ _ _ _ _ _ _ _ _ _ k.balance x.slip.receiver (count c.new (without_coloured x.slip.sender x.slip.number h.tray)) (news ∙ rw nw (omega arith)) tu within) (olds ∙ rw nw (omega arith)) refl;
           tree = arrives_tree;
           given = arrives_given;
@@ -119,12 +119,12 @@ module _ (r : Rule) (c : Cut) (p : Phase) (h : Cells) (out : ℕ) (so : Sound r 
         pend a b false t = rw (slips_at a b, t)
 
     -- an old slip at a station that has not turned
-    pub arrives_old : c.turned x.slip.receiver ≡ false → c.new x.slip.sender x.slip.number ≡ false → During r (with_event c false (takes x.slip.sender x.slip.number)) (arrives h x) out
+    pub arrives_old : c.turned x.slip.receiver ≡ false → c.new x.slip.sender x.slip.number ≡ false → During r (with_event c false (take x.slip.sender x.slip.number)) (arrives h x) out
     arrives_old un nw =
         record {
           base = k.base;
           colouring = arrives_colouring;
-          split = split_sooner _ _ _ _ _ _ _ _ _ _ k.split (takes' x.slip) (cells_view (arrives h x)) c.new (start_numbered h.n) arrives_act un nw (λ _ _ q. q) (λ a b. pend a b (same_name x.slip.sender x.slip.number a b) refl);
+          split = split_sooner _ _ _ _ _ _ _ _ _ _ k.split (take' x.slip) (cells_view (arrives h x)) c.new (start_numbered h.n) arrives_act un nw (λ _ _ q. q) (λ a b. pend a b (same_name x.slip.sender x.slip.number a b) refl);
           balance = arrives_balance _ _ (balance_take_old _ _ _ _ _ _ _ _ _ _ k.balance x.slip.receiver (count (λ a b. not (c.new a b)) (without_coloured x.slip.sender x.slip.number h.tray)) (olds ∙ rw nw (omega arith)) un within (root_waits c h k.tree x.slip.receiver within un)) refl (news ∙ rw nw (omega arith));
           tree = arrives_tree;
           given = arrives_given;
@@ -143,15 +143,15 @@ module _ (r : Rule) (c : Cut) (p : Phase) (h : Cells) (out : ℕ) (so : Sound r 
   pub late_shape : Shape (arrives_late h x)
   late_shape = record { some' = so.shape.some'; few = so.shape.few; sheets = length-set h.sheets x.slip.receiver _ ∙ so.shape.sheets; recorded = so.shape.recorded; stations = length-set h.stations x.slip.receiver _ ∙ so.shape.stations }
 
-  late_act : Acts h.n r (cells_view h) (takes' x.slip) (cells_view (arrives_late h x))
+  late_act : Acts h.n r (cells_view h) (take' x.slip) (cells_view (arrives_late h x))
   late_act = late_acts r h so.shape x so.common.naming.apart has within yes'
 
   late_is : slips_of (h.late ++ x ∷ []) ≡ slips_of h.late ++ x.slip ∷ []
   late_is = slips_push h.late x
 
-  pub late_common : Common h.n r (c.all ++ takes x.slip.sender x.slip.number ∷ []) c.posted c.receiver (cells_view (arrives_late h x)) (slips_of (without_coloured x.slip.sender x.slip.number h.tray)) (slips_of (h.late ++ x ∷ []))
+  pub late_common : Common h.n r (c.all ++ take x.slip.sender x.slip.number ∷ []) c.posted c.receiver (cells_view (arrives_late h x)) (slips_of (without_coloured x.slip.sender x.slip.number h.tray)) (slips_of (h.late ++ x ∷ []))
   late_common =
-      common_act h.n r c.all c.posted c.posted c.receiver c.receiver (cells_view h) (cells_view (arrives_late h x)) (slips_of h.tray) _ (slips_of h.late) _ (takes' x.slip) so.common late_act
+      common_act h.n r c.all c.posted c.posted c.receiver c.receiver (cells_view h) (cells_view (arrives_late h x)) (slips_of h.tray) _ (slips_of h.late) _ (take' x.slip) so.common late_act
       (subst (λ l. Naming h.n (λ t. (station_at (arrives_late h x) t).posted) (slips_of (without_coloured x.slip.sender x.slip.number h.tray)) l) (sym late_is)
       (subst (λ l. Naming h.n (λ t. (station_at (arrives_late h x) t).posted) l (slips_of h.late ++ x.slip ∷ [])) (sym tray_is)
       (subst (λ p. Naming h.n p (without x.slip.sender x.slip.number (slips_of h.tray)) (slips_of h.late ++ x.slip ∷ [])) (sym posted_is)
@@ -162,14 +162,14 @@ module _ (r : Rule) (c : Cut) (p : Phase) (h : Cells) (out : ℕ) (so : Sound r 
       posted_is : ◌≡◌ {A = ℕ → ℕ} (λ t. (station_at (arrives_late h x) t).posted) (λ t. (station_at h t).posted)
       posted_is = field_kept (λ t. t.posted) h.stations x.slip.receiver (late_station (station_at h x.slip.receiver)) ls refl
 
-  pub late_during : During r c h out → c.turned x.slip.receiver ≡ true → c.new x.slip.sender x.slip.number ≡ false → During r (with_event c true (takes x.slip.sender x.slip.number)) (arrives_late h x) out
+  pub late_during : During r c h out → c.turned x.slip.receiver ≡ true → c.new x.slip.sender x.slip.number ≡ false → During r (with_event c true (take x.slip.sender x.slip.number)) (arrives_late h x) out
   late_during k tu nw =
       record {
         base = k.base;
         colouring =
             colouring_as (sym (field_kept (λ t. t.turned) h.stations x.slip.receiver st ls refl)) (sym (field_kept (λ t. t.colour) h.stations x.slip.receiver st ls refl)) (sym late_is)
             (colouring_late h.n k.base _ _ _ _ _ _ (colouring_less h.n k.base _ _ _ _ _ _ k.colouring x.slip.sender x.slip.number) x.slip none_late nw);
-        split = split_later _ _ _ _ _ _ _ _ _ _ k.split (takes' x.slip) (cells_view (arrives_late h x)) (slips_of (h.late ++ x ∷ [])) c.new late_act tu tt (λ _ _ q. q) (λ a b. pend a b (same_name x.slip.sender x.slip.number a b) refl);
+        split = split_later _ _ _ _ _ _ _ _ _ _ k.split (take' x.slip) (cells_view (arrives_late h x)) (slips_of (h.late ++ x ∷ [])) c.new late_act tu tt (λ _ _ q. q) (λ a b. pend a b (same_name x.slip.sender x.slip.number a b) refl);
         balance =
             balance_as (sym (field_kept (λ t. t.running) h.stations x.slip.receiver st ls refl)) (sym (field_kept (λ t. t.frozen) h.stations x.slip.receiver st ls refl)) (sym (field_put (λ t. t.unreported) h.stations x.slip.receiver st ls)) (ap (λ f. f 0) (sym (field_kept (λ t. t.gathered) h.stations x.slip.receiver st ls refl))) refl (news k ∙ rw nw (omega arith)) (let p = length_push h.late x in omega arith)
             (balance_late _ _ _ _ _ _ _ _ _ _ k.balance x.slip.receiver (count (λ a b. not (c.new a b)) (without_coloured x.slip.sender x.slip.number h.tray)) (olds k ∙ rw nw (omega arith)) within);

@@ -6,7 +6,7 @@ use Rattle.sections.specs.Rule.{Rule}
 use Rattle.methods.specs.Model.{Model, begin_questions}
 use Rattle.house_rules.specs.declared.phase.Phase.{Phase}
 use Rattle.house_rules.specs.declared.slip.ColouredSlip.{ColouredSlip}
-use Rattle.house_rules.specs.Calls.EveryCall.{Call, house_questions, method_questions, after, enter, post, take, open', turn, gather, report, close, file}
+use Rattle.house_rules.specs.Calls.EveryCall.{Call, house_questions, method_questions, after, open', turn, gather, report, close, file, event}
 use Rattle.house_rules.specs.State.Changes.{with_messages, with_cells}
 use Rattle.house_rules.specs.Theorem.Cut.{Cut, cut_after}
 use Rattle.house_rules.specs.Calls.Gather.{gathered_below, gather_questions, sum_at, gathered_cells, root_questions, root_gathers, after_gather}
@@ -28,6 +28,7 @@ use Rattle.house_rules.proofs.Calls.Take.{take_sound}
 use Rattle.house_rules.proofs.Calls.Turn.{during_of, turn_sound}
 use Rattle.house_rules.proofs.Statements.MethodIsAskedRightly.{fits_begin}
 use Rattle.methods.specs.Model as models
+use Rattle.house_rules.specs.Calls.Event.{enter, post, take}
 
 -- a slip is found by its own name
 pub own_name : (a b : ℕ) (tray : List ColouredSlip) (x : ColouredSlip) → find_coloured a b tray ≡ Some x → find_coloured x.slip.sender x.slip.number tray ≡ Some x
@@ -36,12 +37,12 @@ own_name a b tray x s =
     subst (λ k. find_coloured k x.slip.number tray ≡ Some x) (sym n.0) (subst (λ k. find_coloured a k tray ≡ Some x) (sym n.1) s)
 
 module _ (rule : Rule) (c : Cut) (p : Phase) (h : Cells) (out : ℕ) (so : Sound rule c p h out) where
-  taken_sound : (a b : ℕ) (o : Option ColouredSlip) → under_way h a b ≡ o → AllYes (take_questions rule p h o) → Sound rule (cut_after c (take a b)) p (taken_cells p h o) out
+  taken_sound : (a b : ℕ) (o : Option ColouredSlip) → under_way h a b ≡ o → AllYes (take_questions rule p h o) → Sound rule (cut_after c (event (take a b))) p (taken_cells p h o) out
   taken_sound a b None s y = absurd (true≢false (sym y.0))
   taken_sound a b (Some x) s y =
       let n = find_named a b (slips_of h.tray) x.slip (find_coloured_lem a b h.tray x s) in
       let t = take_sound rule c p h out so x (own_name a b h.tray x s) (told_tested section_code (rule.credit (sheet_at h x.slip.receiver) x.slip.line x.slip.amount) y.1) in
-      subst (λ k. Sound rule (cut_after c (take k b)) p (arrived p h x) out) n.0 (subst (λ k. Sound rule (cut_after c (take x.slip.sender k)) p (arrived p h x) out) n.1 t)
+      subst (λ k. Sound rule (cut_after c (event (take k b))) p (arrived p h x) out) n.0 (subst (λ k. Sound rule (cut_after c (event (take x.slip.sender k))) p (arrived p h x) out) n.1 t)
 
 -- what the method owes after a begin and after an arrival
 module _ (m : Model) (ml : models.Lawful m) (rule : Rule) (c : Cut) (x : HouseState m.State) (k : Holds m rule c x) where
@@ -96,11 +97,11 @@ module _ (m : Model) (ml : models.Lawful m) (rule : Rule) (c : Cut) (x : HouseSt
       go false e = gathers x.cells.messages _ (λ f. absurd (true≢false (sym f ∙ e))) (λ _. refl)
 
   pub granted_sound : (call : Call) → AllYes (house_questions rule x.phase x.cells (m.rules.outstanding x.method) call) → AllYes (method_questions m x call) → Sound rule (cut_after c call) (after m rule x call).phase (after m rule x call).cells (m.rules.outstanding (after m rule x call).method)
-  granted_sound (enter s a b r) y z = enter_sound rule c p h out k.sound s a b r (ltb-true s h.n y.0) (told_tested section_code (rule.entry (sheet_at h s) a b r) y.1.1)
-  granted_sound (post s to line amount) y z =
+  granted_sound (event (enter s a b r)) y z = enter_sound rule c p h out k.sound s a b r (ltb-true s h.n y.0) (told_tested section_code (rule.entry (sheet_at h s) a b r) y.1.1)
+  granted_sound (event (post s to line amount)) y z =
       let q = and_parts _ _ y.0 in
       post_sound rule c p h out k.sound s to line amount (ltb-true s h.n q.0) (ltb-true to h.n q.1) (told_tested section_code (rule.debit (sheet_at h s) line amount) y.1.1.1.1.1)
-  granted_sound (take a b) y z = taken_sound rule c p h out k.sound a b (under_way h a b) refl y
+  granted_sound (event (take a b)) y z = taken_sound rule c p h out k.sound a b (under_way h a b) refl y
   granted_sound (open' s) y z = open_sound rule c p h out k.sound s (ltb-true s h.n y.0) (is_ready_lem p y.1.0)
   granted_sound (turn s) y z =
       let ph = is_counting_lem p y.1.0 in

@@ -13,7 +13,6 @@ use Rattle.house_rules.specs.declared.slip.ColouredSlip.{ColouredSlip}
 use Rattle.house_rules.specs.declared.slip.Slip.{Slip}
 use Rattle.house_rules.specs.Theorem.Cut.{put, put_slip, Cut, with_event, with_post}
 use Rattle.house_rules.specs.State.Names.{same_name, find, slips_of}
-use Rattle.house_rules.specs.Theorem.PlainHouse.{posts}
 use Rattle.house_rules.specs.Calls.Post.{posted_station, posted_slip, posted_cells}
 use Rattle.house_rules.specs.State.House.{Cells, station_at, sheet_at}
 use Rattle.house_rules.proofs.Invariant.Deficits.{balance_post_new, balance_post_old}
@@ -26,20 +25,21 @@ use Rattle.house_rules.proofs.Lists.Slips.{same_name_refl, same_name_true}
 use Rattle.house_rules.proofs.Invariant.Sound.{Between, Tree, During, Sound}
 use Rattle.house_rules.proofs.Invariant.Cut.{pending, split_later, split_sooner}
 use Rattle.house_rules.proofs.Lists.Totals.{sum_z, sum_z_put, count, count_push, count_agree}
-use Rattle.house_rules.proofs.Invariant.PlainHouse.{Acts, put_same, posts'}
+use Rattle.house_rules.proofs.Invariant.PlainHouse.{Acts, put_same, post'}
+use Rattle.house_rules.specs.Calls.Event.{post}
 
 pub count_posted : (p : ℕ → ℕ → Bool) (v : Bool) (tray : List ColouredSlip) (x : ColouredSlip) (q : ℕ → ℕ → Bool) → ((a b : ℕ) → same_name x.slip.sender x.slip.number a b ≡ false → q a b ≡ p a b) → q x.slip.sender x.slip.number ≡ v → find x.slip.sender x.slip.number (slips_of tray) ≡ None → count q (tray ++ x ∷ []) ≡ count p tray + cond v 1 0
 count_posted p v tray x q agree here none_yet =
     count_push q tray x ∙ ap (λ k. k + cond (q x.slip.sender x.slip.number) 1 0) (count_agree q p x.slip.sender x.slip.number tray agree none_yet) ∙ ap (λ t. count p tray + cond t 1 0) here
 
 module _ (r : Rule) (c : Cut) (p : Phase) (h : Cells) (out : ℕ) (so : Sound r c p h out) (s to line : ℕ) (amount : ℤ) (lt : s < h.n) (lr : to < h.n) (yes' : all_yes (r.debit (sheet_at h s) line amount) ≡ true) where
-  pub post_sound : Sound r (with_event (with_post c s to (c.posted s + 1)) (c.turned s) (posts s to line amount)) p (posted_cells h s to line amount) out
+  pub post_sound : Sound r (with_event (with_post c s to (c.posted s + 1)) (c.turned s) (post s to line amount)) p (posted_cells h s to line amount) out
   post_sound =
-      subst (λ k. Sound r (with_event (with_post c s to k) (c.turned s) (posts s to line amount)) p h' out) (ap (λ j. j + 1) (sym (so.common.sent_is s)))
+      subst (λ k. Sound r (with_event (with_post c s to k) (c.turned s) (post s to line amount)) p h' out) (ap (λ j. j + 1) (sym (so.common.sent_is s)))
       (record {
         shape = record { some' = so.shape.some'; few = so.shape.few; sheets = length-set h.sheets s _ ∙ so.shape.sheets; recorded = so.shape.recorded; stations = length-set h.stations s _ ∙ so.shape.stations };
         common =
-            common_act h.n r c.all c.posted _ c.receiver _ (cells_view h) (cells_view h') (slips_of h.tray) (slips_of h'.tray) (slips_of h.late) (slips_of h.late) (posts' slip) so.common act
+            common_act h.n r c.all c.posted _ c.receiver _ (cells_view h) (cells_view h') (slips_of h.tray) (slips_of h'.tray) (slips_of h.late) (slips_of h.late) (post' slip) so.common act
             naming'
             (λ t. ap (λ f. put f s ((station_at h s).posted + 1) t) (fun_ext so.common.sent_is) ∙ ap (λ f. f t) (sym posted_is))
             (λ a b x e. goes' a b x (same_name s ((station_at h s).posted + 1) a b) refl (sym (find_push_at (slips_of h.tray) slip nt a b) ∙ ap (λ l. find a b l) (sym tray_is) ∙ e));
@@ -58,7 +58,7 @@ module _ (r : Rule) (c : Cut) (p : Phase) (h : Cells) (out : ℕ) (so : Sound r 
       ls : s < length h.stations
       ls = rw so.shape.stations lt
 
-      act : Acts h.n r (cells_view h) (posts' slip) (cells_view h')
+      act : Acts h.n r (cells_view h) (post' slip) (cells_view h')
       act = post_acts r h so.shape so.common.naming.given s to line amount lt lr yes'
 
       tray_is : slips_of h'.tray ≡ slips_of h.tray ++ slip ∷ []
@@ -143,12 +143,12 @@ module _ (r : Rule) (c : Cut) (p : Phase) (h : Cells) (out : ℕ) (so : Sound r 
       slips_at : (a b : ℕ) → find a b (slips_of h'.tray) ≡ put_slip (λ a b. find a b (slips_of h.tray)) s ((station_at h s).posted + 1) (Some slip) a b
       slips_at a b = ap (λ f. f a b) act.slips
 
-      go : During r c h out → (t : Bool) → c.turned s ≡ t → During r (with_event (with_post c s to ((station_at h s).posted + 1)) t (posts s to line amount)) h' out
+      go : During r c h out → (t : Bool) → c.turned s ≡ t → During r (with_event (with_post c s to ((station_at h s).posted + 1)) t (post s to line amount)) h' out
       go k true e =
           record {
             base = k.base;
             colouring = colouring' k;
-            split = split_later _ _ _ _ _ _ _ _ _ _ k.split (posts' slip) (cells_view h') (slips_of h.late) new' act e (new_here ∙ e) (λ a b q. still a b q (same_name s ((station_at h s).posted + 1) a b) refl) (λ a b. pend a b (same_name s ((station_at h s).posted + 1) a b) refl);
+            split = split_later _ _ _ _ _ _ _ _ _ _ k.split (post' slip) (cells_view h') (slips_of h.late) new' act e (new_here ∙ e) (λ a b q. still a b q (same_name s ((station_at h s).posted + 1) a b) refl) (λ a b. pend a b (same_name s ((station_at h s).posted + 1) a b) refl);
             balance = balance_as (sym running_is) (sym frozen_is) (sym unreported_is) (ap (λ f. f 0) (sym gathered_is)) (let o = olds in (let w : count (λ a b. not (c.new a b)) h.tray + cond (not (c.turned s)) 1 0 ≡ count (λ a b. not (c.new a b)) h.tray = rw e (omega arith) in sym w) ∙ sym o) (let o = news in (let w : count c.new h.tray + cond (c.turned s) 1 0 ≡ suc (count c.new h.tray) = rw e (omega arith) in sym w) ∙ sym o) refl (balance_post_new _ _ _ _ _ _ _ _ _ _ k.balance s e lt);
             tree = tree' k;
             given = given' k;
@@ -173,7 +173,7 @@ module _ (r : Rule) (c : Cut) (p : Phase) (h : Cells) (out : ℕ) (so : Sound r 
           record {
             base = k.base;
             colouring = colouring' k;
-            split = split_sooner _ _ _ _ _ _ _ _ _ _ k.split (posts' slip) (cells_view h') new' (start_numbered h.n) act e tt (λ a b q. still a b q (same_name s ((station_at h s).posted + 1) a b) refl) (λ a b. pend a b (same_name s ((station_at h s).posted + 1) a b) refl);
+            split = split_sooner _ _ _ _ _ _ _ _ _ _ k.split (post' slip) (cells_view h') new' (start_numbered h.n) act e tt (λ a b q. still a b q (same_name s ((station_at h s).posted + 1) a b) refl) (λ a b. pend a b (same_name s ((station_at h s).posted + 1) a b) refl);
             balance = balance_as (sym running_is) (sym frozen_is) (sym unreported_is) (ap (λ f. f 0) (sym gathered_is)) (let o = olds in (let w : count (λ a b. not (c.new a b)) h.tray + cond (not (c.turned s)) 1 0 ≡ suc (count (λ a b. not (c.new a b)) h.tray) = rw e (omega arith) in sym w) ∙ sym o) (let o = news in (let w : count c.new h.tray + cond (c.turned s) 1 0 ≡ count c.new h.tray = rw e (omega arith) in sym w) ∙ sym o) refl (balance_post_old _ _ _ _ _ _ _ _ _ _ k.balance s e lt (root_waits c h k.tree s lt e));
             tree = tree' k;
             given = given' k;

@@ -7,7 +7,7 @@ use Rattle.methods.specs.Model.{Model}
 use Rattle.house_rules.specs.declared.phase.Phase.{Phase}
 use Rattle.house_rules.specs.declared.phase.Phase.TheVariants.{Ready, Counting, Closed}
 use Rattle.house_rules.specs.declared.slip.ColouredSlip.{ColouredSlip}
-use Rattle.house_rules.specs.Calls.EveryCall.{Call, house_questions, method_questions, after, enter, post, take, open', turn, gather, report, close, file}
+use Rattle.house_rules.specs.Calls.EveryCall.{Call, house_questions, method_questions, after, open', turn, gather, report, close, file, event}
 use Rattle.house_rules.specs.State.Changes.{with_cells}
 use Rattle.house_rules.specs.Theorem.Cut.{put, Cut}
 use Rattle.house_rules.specs.Calls.Enter.{entered_cells}
@@ -26,6 +26,7 @@ use Rattle.house_rules.proofs.Invariant.Phases.{is_ready_lem, is_closed_lem}
 use Rattle.house_rules.proofs.Calls.OpenGatherReportFile.{mapped}
 use Rattle.house_rules.proofs.Invariant.PlainHouse.{put_other}
 use Rattle.methods.specs.Model as models
+use Rattle.house_rules.specs.Calls.Event.{enter, post, take}
 
 -- Room
 
@@ -54,11 +55,11 @@ room_gather m x s k = go (eqb s 0)
     go false = record { tray_cells_lem = k.tray_cells_lem; late_cells_lem = k.late_cells_lem; tray = k.tray; late = k.late }
 
 pub granted_room : (m : Model) (rule : Rule) (x : HouseState m.State) (call : Call) → AllYes (house_questions rule x.phase x.cells (m.rules.outstanding x.method) call) → Room x.cells → Room (after m rule x call).cells
-granted_room m rule x (enter s a b r) y k = record { tray_cells_lem = k.tray_cells_lem; late_cells_lem = k.late_cells_lem; tray = k.tray; late = k.late }
-granted_room m rule x (post s to line amount) y k =
+granted_room m rule x (event (enter s a b r)) y k = record { tray_cells_lem = k.tray_cells_lem; late_cells_lem = k.late_cells_lem; tray = k.tray; late = k.late }
+granted_room m rule x (event (post s to line amount)) y k =
     let free = ltb-true (length x.cells.tray) x.cells.tray_cells y.1.1.1.1.0 in
     record { tray_cells_lem = k.tray_cells_lem; late_cells_lem = k.late_cells_lem; tray = let a = length_push x.cells.tray (record { slip = posted_slip x.cells s to line amount; colour = (station_at x.cells s).colour }) in omega arith; late = k.late }
-granted_room m rule x (take a b) y k = room_taken rule x.phase x.cells (under_way x.cells a b) y k
+granted_room m rule x (event (take a b)) y k = room_taken rule x.phase x.cells (under_way x.cells a b) y k
 granted_room m rule x (open' s) y k = record { tray_cells_lem = k.tray_cells_lem; late_cells_lem = k.late_cells_lem; tray = k.tray; late = omega arith }
 granted_room m rule x (turn s) y k = room_turns x.cells s k
 granted_room m rule x (gather s) y k = room_gather m x s k
@@ -121,11 +122,11 @@ module _ (m : Model) (ml : models.Lawful m) (rule : Rule) (c : Cut) (x : HouseSt
       go false e = still (gathered_cells x.cells s) (ap (λ f. f 0) g_is ∙ put_other (λ t. (station_at x.cells t).gathered) s 0 true (λ w. eqb-false s 0 e (sym w))) refl
 
   pub granted_served : (call : Call) → AllYes (house_questions rule x.phase x.cells (m.rules.outstanding x.method) call) → AllYes (method_questions m x call) → Served m (after m rule x call).phase (after m rule x call).cells (after m rule x call).method
-  granted_served (enter s a b r) y z = still (entered_cells rule h s a b r) refl refl
-  granted_served (post s to line amount) y z =
+  granted_served (event (enter s a b r)) y z = still (entered_cells rule h s a b r) refl refl
+  granted_served (event (post s to line amount)) y z =
       let q = and_parts _ _ y.0 in
       still (posted_cells h s to line amount) (root_kept h s (posted_station (station_at h s)) (below s q.0) refl) refl
-  granted_served (take a b) y z = taken_served a b (under_way h a b) refl
+  granted_served (event (take a b)) y z = taken_served a b (under_way h a b) refl
   granted_served (open' s) y z =
       let ls : s < length (map cleared_station h.stations) = rw (length-map h.stations cleared_station) (below s y.0) in
       let g : (station_at (opened_cells h s) 0).gathered ≡ false = root_kept (cleared h) s (turned_station (station_at (cleared h) s)) ls refl ∙ ap (λ t. t.gathered) (mapped h.stations 0) in

@@ -10,7 +10,6 @@ use Rattle.house_rules.specs.declared.slip.ColouredSlip.{ColouredSlip}
 use Rattle.house_rules.specs.State.Colours.{differ}
 use Rattle.house_rules.specs.Theorem.Cut.{put, Cut, with_event, with_turned, with_take}
 use Rattle.house_rules.specs.State.Names.{find, find_coloured, slips_of, named}
-use Rattle.house_rules.specs.Theorem.PlainHouse.{Event, takes}
 use Rattle.house_rules.specs.State.House.{Cells, station_at, sheet_at, is_counting}
 use Rattle.house_rules.specs.Calls.Take.{is_late, turns_receiver, arrives, arrives_late, arrived}
 use Rattle.house_rules.specs.Calls.Turn.{turns}
@@ -23,6 +22,7 @@ use Rattle.house_rules.proofs.Invariant.Sound.{Common, Between, During, ByPhase,
 use Rattle.house_rules.proofs.Calls.Turn.{during_of, as_during, turn_sound}
 use Rattle.house_rules.proofs.Invariant.PlainHouse.{put_same}
 use Rattle.house_rules.proofs.Lists.Slips.{first_all}
+use Rattle.house_rules.specs.Calls.Event.{Event, take}
 
 -- Which of the ways a take goes
 
@@ -49,15 +49,15 @@ module _ (r : Rule) (c : Cut) (p : Phase) (h : Cells) (out : ℕ) (so : Sound r 
   lt : x.slip.receiver < h.n
   lt = so.common.naming.meant x.slip.sender x.slip.number x.slip has
 
-  between_take : is_counting p ≡ false → (c' : Cut) → c'.all ≡ c.all ++ takes x.slip.sender x.slip.number ∷ [] → c'.posted ≡ c.posted → c'.receiver ≡ c.receiver → Sound r c' p (arrived p h x) out
+  between_take : is_counting p ≡ false → (c' : Cut) → c'.all ≡ c.all ++ take x.slip.sender x.slip.number ∷ [] → c'.posted ≡ c.posted → c'.receiver ≡ c.receiver → Sound r c' p (arrived p h x) out
   between_take nc c' ea es eg =
       subst (λ k. Sound r c' p k out) (sym way)
       (record {
         shape = arrives_shape r c p h out so x has yes';
         common =
             subst (λ k. Common h.n r k c'.posted c'.receiver (cells_view (arrives h x)) (slips_of (arrives h x).tray) (slips_of h.late)) (sym ea)
-            (subst (λ k. Common h.n r (c.all ++ takes x.slip.sender x.slip.number ∷ []) k c'.receiver (cells_view (arrives h x)) (slips_of (arrives h x).tray) (slips_of h.late)) (sym es)
-            (subst (λ k. Common h.n r (c.all ++ takes x.slip.sender x.slip.number ∷ []) c.posted k (cells_view (arrives h x)) (slips_of (arrives h x).tray) (slips_of h.late)) (sym eg)
+            (subst (λ k. Common h.n r (c.all ++ take x.slip.sender x.slip.number ∷ []) k c'.receiver (cells_view (arrives h x)) (slips_of (arrives h x).tray) (slips_of h.late)) (sym es)
+            (subst (λ k. Common h.n r (c.all ++ take x.slip.sender x.slip.number ∷ []) c.posted k (cells_view (arrives h x)) (slips_of (arrives h x).tray) (slips_of h.late)) (sym eg)
             (arrives_common r c p h out so x has yes')));
         state = state' p nc so.state;
       })
@@ -80,21 +80,21 @@ module _ (r : Rule) (c : Cut) (p : Phase) (h : Cells) (out : ℕ) (so : Sound r 
       rw (ph, k.colouring.marked x.slip.receiver lt, k.colouring.coloured x.slip.receiver lt, first_all (λ (y : ColouredSlip). y.colour ≡ shade k.base (c.new y.slip.sender y.slip.number)) (λ y. named x.slip.sender x.slip.number y.slip) h.tray x k.colouring.slips here)
       (by_colours k.base (c.turned x.slip.receiver) (c.new x.slip.sender x.slip.number)).1
 
-  during_take : p ≡ Counting → (t u : Bool) → c.turned x.slip.receiver ≡ t → c.new x.slip.sender x.slip.number ≡ u → Sound r (with_event (with_turned c (put c.turned x.slip.receiver (t || u))) (t || u) (takes x.slip.sender x.slip.number)) p (arrived p h x) out
+  during_take : p ≡ Counting → (t u : Bool) → c.turned x.slip.receiver ≡ t → c.new x.slip.sender x.slip.number ≡ u → Sound r (with_event (with_turned c (put c.turned x.slip.receiver (t || u))) (t || u) (take x.slip.sender x.slip.number)) p (arrived p h x) out
   during_take ph true true et eu =
       let k = during_of r c p h out so ph in
       let l : is_late p h x ≡ false = late? k ph ∙ rw (et, eu) in
       let t : turns_receiver p h x ≡ false = first? k ph ∙ rw et in
       let way : arrived p h x ≡ arrives h x = rw (l, t) in
       subst (λ c'. Sound r c' p (arrived p h x) out) (sym (same_cut c x.slip.receiver true _ et))
-      (subst (λ h'. Sound r (with_event c true (takes x.slip.sender x.slip.number)) p h' out) (sym way)
+      (subst (λ h'. Sound r (with_event c true (take x.slip.sender x.slip.number)) p h' out) (sym way)
       (record { shape = arrives_shape r c p h out so x has yes'; common = arrives_common r c p h out so x has yes'; state = as_during p _ _ ph (arrives_new r c p h out so x has yes' k et eu) }))
   during_take ph true false et eu =
       let k = during_of r c p h out so ph in
       let l : is_late p h x ≡ true = late? k ph ∙ rw (et, eu) in
       let way : arrived p h x ≡ arrives_late h x = rw l in
       subst (λ c'. Sound r c' p (arrived p h x) out) (sym (same_cut c x.slip.receiver true _ et))
-      (subst (λ h'. Sound r (with_event c true (takes x.slip.sender x.slip.number)) p h' out) (sym way)
+      (subst (λ h'. Sound r (with_event c true (take x.slip.sender x.slip.number)) p h' out) (sym way)
       (record { shape = late_shape r c p h out so x has yes'; common = late_common r c p h out so x has yes'; state = as_during p _ _ ph (late_during r c p h out so x has yes' k et eu) }))
   during_take ph false false et eu =
       let k = during_of r c p h out so ph in
@@ -102,7 +102,7 @@ module _ (r : Rule) (c : Cut) (p : Phase) (h : Cells) (out : ℕ) (so : Sound r 
       let t : turns_receiver p h x ≡ false = first? k ph ∙ rw (et, eu) in
       let way : arrived p h x ≡ arrives h x = rw (l, t) in
       subst (λ c'. Sound r c' p (arrived p h x) out) (sym (same_cut c x.slip.receiver false _ et))
-      (subst (λ h'. Sound r (with_event c false (takes x.slip.sender x.slip.number)) p h' out) (sym way)
+      (subst (λ h'. Sound r (with_event c false (take x.slip.sender x.slip.number)) p h' out) (sym way)
       (record { shape = arrives_shape r c p h out so x has yes'; common = arrives_common r c p h out so x has yes'; state = as_during p _ _ ph (arrives_old r c p h out so x has yes' k et eu) }))
   during_take ph false true et eu =
       let k = during_of r c p h out so ph in
@@ -113,7 +113,7 @@ module _ (r : Rule) (c : Cut) (p : Phase) (h : Cells) (out : ℕ) (so : Sound r 
       let c₁ : Cut = with_turned c (put c.turned q true) in
       let so₁ : Sound r c₁ p (turns h q) out = turn_sound r c p h out so ph q lt et in
       let k₁ = during_of r c₁ p (turns h q) out so₁ ph in
-      subst (λ h'. Sound r (with_event c₁ true (takes x.slip.sender x.slip.number)) p h' out) (sym way)
+      subst (λ h'. Sound r (with_event c₁ true (take x.slip.sender x.slip.number)) p h' out) (sym way)
       (record { shape = arrives_shape r c₁ p (turns h q) out so₁ x has yes'; common = arrives_common r c₁ p (turns h q) out so₁ x has yes'; state = as_during p _ _ ph (arrives_new r c₁ p (turns h q) out so₁ x has yes' k₁ (put_same c.turned q true) eu) })
 
   pub take_sound : Sound r (with_take c (c.receiver x.slip.sender x.slip.number) x.slip.sender x.slip.number) p (arrived p h x) out

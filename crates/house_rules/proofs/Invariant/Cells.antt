@@ -16,7 +16,7 @@ use Rattle.house_rules.specs.Calls.Take.{took_station, late_station, arrives, ar
 use Rattle.house_rules.specs.Calls.Turn.{turned_station, turns}
 use Rattle.house_rules.proofs.Invariant.PlainSteps.{get_or-put, put_own, same_view, find_push, find_less}
 use Rattle.house_rules.proofs.Lists.Slips.{Distinct}
-use Rattle.house_rules.proofs.Invariant.PlainHouse.{View, Acts, Numbered, enters', posts', takes'}
+use Rattle.house_rules.proofs.Invariant.PlainHouse.{View, Acts, Numbered, enter', post', take'}
 
 -- the cells as the plain house sees them
 abbrev pub cells_view : Cells → View
@@ -64,7 +64,7 @@ pub slips_push : (xs : List ColouredSlip) (x : ColouredSlip) → slips_of (xs ++
 slips_push xs x = map-append (λ (y : ColouredSlip). y.slip) xs (x ∷ [])
 
 module _ (r : Rule) (h : Cells) (sh : Shape h) where
-  pub enter_acts : (s a b : ℕ) (code : ℤ) → s < h.n → all_yes (r.entry (sheet_at h s) a b code) ≡ true → Acts h.n r (cells_view h) (enters' s a b code) (cells_view (entered_cells r h s a b code))
+  pub enter_acts : (s a b : ℕ) (code : ℤ) → s < h.n → all_yes (r.entry (sheet_at h s) a b code) ≡ true → Acts h.n r (cells_view h) (enter' s a b code) (cells_view (entered_cells r h s a b code))
   enter_acts s a b code lt yes' =
       record {
         within = lt;
@@ -82,7 +82,7 @@ module _ (r : Rule) (h : Cells) (sh : Shape h) where
       go None k = refl
       go (Some x) k = let l = given s ((station_at h s).posted + 1) x k in absurd (omega arith)
 
-  pub post_acts : Numbered (cells_view h) → (s to line : ℕ) (amount : ℤ) → s < h.n → to < h.n → all_yes (r.debit (sheet_at h s) line amount) ≡ true → Acts h.n r (cells_view h) (posts' (posted_slip h s to line amount)) (cells_view (posted_cells h s to line amount))
+  pub post_acts : Numbered (cells_view h) → (s to line : ℕ) (amount : ℤ) → s < h.n → to < h.n → all_yes (r.debit (sheet_at h s) line amount) ≡ true → Acts h.n r (cells_view h) (post' (posted_slip h s to line amount)) (cells_view (posted_cells h s to line amount))
   post_acts p s to line amount lt lr yes' =
       record {
         within = lt;
@@ -105,7 +105,7 @@ module _ (r : Rule) (h : Cells) (sh : Shape h) where
     less_slips : (λ (a b : ℕ). find a b (slips_of (without_coloured x.slip.sender x.slip.number h.tray))) ≡ put_slip (λ a b. find a b (slips_of h.tray)) x.slip.sender x.slip.number None
     less_slips = ap (λ l a b. find a b l) (slips_less x.slip.sender x.slip.number h.tray) ∙ find_less (slips_of h.tray) x.slip.sender x.slip.number apart
 
-    pub late_acts : Acts h.n r (cells_view h) (takes' x.slip) (cells_view (arrives_late h x))
+    pub late_acts : Acts h.n r (cells_view h) (take' x.slip) (cells_view (arrives_late h x))
     late_acts =
         record {
           within = lt;
@@ -116,7 +116,7 @@ module _ (r : Rule) (h : Cells) (sh : Shape h) where
           slips = less_slips;
         }
 
-    pub take_acts : Acts h.n r (cells_view h) (takes' x.slip) (cells_view (arrives h x))
+    pub take_acts : Acts h.n r (cells_view h) (take' x.slip) (cells_view (arrives h x))
     take_acts =
         record {
           within = lt;

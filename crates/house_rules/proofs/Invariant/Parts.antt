@@ -8,7 +8,6 @@ use Rattle.house_rules.specs.declared.slip.ColouredSlip.{ColouredSlip}
 use Rattle.house_rules.specs.declared.slip.Slip.{Slip}
 use Rattle.house_rules.specs.Theorem.Cut.{Cut}
 use Rattle.house_rules.specs.State.Names.{find}
-use Rattle.house_rules.specs.Theorem.PlainHouse.{Event}
 use Rattle.house_rules.specs.State.House.{Cells, station_at}
 use Rattle.house_rules.proofs.Invariant.Deficits.{Balance}
 use Rattle.house_rules.proofs.Invariant.Colours.{Colouring}
@@ -16,6 +15,7 @@ use Rattle.house_rules.proofs.Invariant.Names.{Naming}
 use Rattle.house_rules.proofs.Invariant.Sound.{start_view, Common, Tree, ByPhase, all_turned}
 use Rattle.house_rules.proofs.Invariant.Cut.{event_push}
 use Rattle.house_rules.proofs.Invariant.PlainHouse.{View, FullEvent, event_of, Acts, Numbered, acted_push}
+use Rattle.house_rules.specs.Calls.Event.{Event}
 
 pub by_phase : (p : Phase) (A A' B B' : Type 0) → (A → A') → (B → B') → ByPhase p A B → ByPhase p A' B'
 by_phase Ready A A' B B' f g s = f s

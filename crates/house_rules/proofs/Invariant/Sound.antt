@@ -10,7 +10,7 @@ use Rattle.house_rules.specs.declared.slip.ColouredSlip.{ColouredSlip}
 use Rattle.house_rules.specs.declared.slip.Slip.{Slip}
 use Rattle.house_rules.specs.Theorem.Cut.{Cut}
 use Rattle.house_rules.specs.State.Names.{find, slips_of}
-use Rattle.house_rules.specs.Theorem.PlainHouse.{Event, blank}
+use Rattle.house_rules.specs.Theorem.PlainHouse.{blank}
 use Rattle.house_rules.specs.State.House.{Cells, station_at}
 use Rattle.house_rules.proofs.Invariant.Deficits.{Balance}
 use Rattle.house_rules.proofs.Invariant.Colours.{Colouring}
@@ -20,6 +20,7 @@ use Rattle.house_rules.proofs.Invariant.PlainSteps.{plain_view}
 use Rattle.house_rules.proofs.Invariant.Cut.{Split}
 use Rattle.house_rules.proofs.Lists.Totals.{sum_z, count}
 use Rattle.house_rules.proofs.Invariant.PlainHouse.{View, FullEvent, event_of, Acted}
+use Rattle.house_rules.specs.Calls.Event.{Event}
 
 abbrev pub start_view : ℕ → View
 start_view n = plain_view (blank n)

@@ -8,12 +8,12 @@ use Rattle.methods.specs.Model.{Model}
 use Rattle.common.specs.Questions.{first_no, all_yes}
 use Rattle.house_rules.specs.declared.phase.Phase.{Phase}
 use Rattle.house_rules.specs.declared.slip.ColouredSlip.{ColouredSlip}
-use Rattle.house_rules.specs.Calls.EveryCall.{Call, house_questions, method_questions, questions, after, reply, enter, post, take, open', turn, gather, report, close, file}
+use Rattle.house_rules.specs.Calls.EveryCall.{Call, house_questions, method_questions, questions, after, reply, open', turn, gather, report, close, file, event}
 use Rattle.house_rules.specs.State.Changes.{with_cells}
 use Rattle.house_rules.specs.Theorem.Cut.{Cut, no_cut, cut_after, cut_after_all, cut_of}
 use Rattle.house_rules.specs.Calls.Gather.{gathered_cells, root_gathers, after_gather}
 use Rattle.house_rules.specs.State.Names.{without, find_coloured, slips_of}
-use Rattle.house_rules.specs.Theorem.PlainHouse.{PlainHouse, Event, plain_step, or_stays, plain_run, RefusesNone, blank, enters, posts, takes}
+use Rattle.house_rules.specs.Theorem.PlainHouse.{PlainHouse, plain_step, or_stays, plain_run, RefusesNone, blank}
 use Rattle.house_rules.specs.Calls.Post.{posted_slip}
 use Rattle.house_rules.specs.Theorem.Histories.{outcome, next, run, only_done, granted_among, History, granted_calls}
 use Rattle.house_rules.specs.State.House.{Cells, HouseState, station_at, sheet_at}
@@ -30,6 +30,7 @@ use Rattle.house_rules.proofs.Invariant.PlainSteps.{plain_view, Fine, Plays, pla
 use Rattle.house_rules.proofs.Lists.Slips.{find_named}
 use Rattle.house_rules.proofs.Invariant.Sound.{Sound}
 use Rattle.methods.specs.Model as models
+use Rattle.house_rules.specs.Calls.Event.{Event, enter, post, take}
 
 run_push : (r : Rule) (p : PlainHouse) (es : List Event) (e : Event) → plain_run r p (es ++ e ∷ []) ≡ or_stays (plain_run r p es) (plain_step r (plain_run r p es) e)
 run_push r p [] e = refl
@@ -59,7 +60,7 @@ module _ (r : Rule) (c : Cut) (p : Phase) (h : Cells) (out : ℕ) (so : Sound r 
 abbrev Ordered : Rule → Cut → Cells → Type 0
 Ordered r c h = (plain_run r (blank h.n) c.all).under_way ≡ slips_of h.tray
 
-entry_stays : (r : Rule) (p : PlainHouse) (s a b : ℕ) (z : _) → (or_stays p (plain_step r p (enters s a b z))).under_way ≡ p.under_way
+entry_stays : (r : Rule) (p : PlainHouse) (s a b : ℕ) (z : _) → (or_stays p (plain_step r p (enter s a b z))).under_way ≡ p.under_way
 entry_stays r p s a b z = go (ltb s (length p.sheets) && all_yes (r.entry (get_or p.sheets s []) a b z))
   where
     go : (t : Bool) → (or_stays p (cond t (Some (record { sheets = set p.sheets s (entered (get_or p.sheets s []) (r.gain a b z)); posted = p.posted; under_way = p.under_way })) None)).under_way ≡ p.under_way
@@ -67,14 +68,14 @@ entry_stays r p s a b z = go (ltb s (length p.sheets) && all_yes (r.entry (get_o
     go false = refl
 
 module _ (r : Rule) (c : Cut) (p : Phase) (h : Cells) (out : ℕ) (so : Sound r c p h out) (k : Ordered r c h) where
-  post_ordered : (s to line : ℕ) (amount : _) → ltb s h.n ≡ true → ltb to h.n ≡ true → all_yes (r.debit (sheet_at h s) line amount) ≡ true → (plain_run r (blank h.n) (c.all ++ posts s to line amount ∷ [])).under_way ≡ slips_of h.tray ++ posted_slip h s to line amount ∷ []
+  post_ordered : (s to line : ℕ) (amount : _) → ltb s h.n ≡ true → ltb to h.n ≡ true → all_yes (r.debit (sheet_at h s) line amount) ≡ true → (plain_run r (blank h.n) (c.all ++ post s to line amount ∷ [])).under_way ≡ slips_of h.tray ++ posted_slip h s to line amount ∷ []
   post_ordered s to line amount ls lt ok =
-      ap (λ (q : PlainHouse). q.under_way) (run_push r (blank h.n) c.all (posts s to line amount))
+      ap (λ (q : PlainHouse). q.under_way) (run_push r (blank h.n) c.all (post s to line amount))
       ∙ (let es = run_sheets r c p h out so in let ep = run_posted r c p h out so s in let en = so.shape.sheets in rw (es, en, ls, lt, ok, k, ep))
 
-  take_ordered : (x : ColouredSlip) → find_coloured x.slip.sender x.slip.number h.tray ≡ Some x → all_yes (r.credit (sheet_at h x.slip.receiver) x.slip.line x.slip.amount) ≡ true → (plain_run r (blank h.n) (c.all ++ takes x.slip.sender x.slip.number ∷ [])).under_way ≡ without x.slip.sender x.slip.number (slips_of h.tray)
+  take_ordered : (x : ColouredSlip) → find_coloured x.slip.sender x.slip.number h.tray ≡ Some x → all_yes (r.credit (sheet_at h x.slip.receiver) x.slip.line x.slip.amount) ≡ true → (plain_run r (blank h.n) (c.all ++ take x.slip.sender x.slip.number ∷ [])).under_way ≡ without x.slip.sender x.slip.number (slips_of h.tray)
   take_ordered x here ok =
-      ap (λ (q : PlainHouse). q.under_way) (run_push r (blank h.n) c.all (takes x.slip.sender x.slip.number))
+      ap (λ (q : PlainHouse). q.under_way) (run_push r (blank h.n) c.all (take x.slip.sender x.slip.number))
       ∙ (let es = run_sheets r c p h out so in let f = find_coloured_lem x.slip.sender x.slip.number h.tray x here in rw (k, f, es, ok, k))
 
 -- a taken slip leaves the tray, whichever way it goes
@@ -86,12 +87,12 @@ arrived_tray r es p h x e = go (is_late p h x) (turns_receiver p h x)
     go false true = e ∙ sym (slips_less x.slip.sender x.slip.number h.tray)
     go false false = e ∙ sym (slips_less x.slip.sender x.slip.number h.tray)
 
-taken_ordered : (r : Rule) (c : Cut) (p : Phase) (h : Cells) (out : ℕ) → Sound r c p h out → Ordered r c h → (a b : ℕ) (o : Option ColouredSlip) → under_way h a b ≡ o → AllYes (take_questions r p h o) → Ordered r (cut_after c (take a b)) (taken_cells p h o)
+taken_ordered : (r : Rule) (c : Cut) (p : Phase) (h : Cells) (out : ℕ) → Sound r c p h out → Ordered r c h → (a b : ℕ) (o : Option ColouredSlip) → under_way h a b ≡ o → AllYes (take_questions r p h o) → Ordered r (cut_after c (event (take a b))) (taken_cells p h o)
 taken_ordered r c p h out so k a b None s y = absurd (true≢false (sym y.0))
 taken_ordered r c p h out so k a b (Some x) s y =
     let n = find_named a b (slips_of h.tray) x.slip (find_coloured_lem a b h.tray x s) in
-    let t = arrived_tray r (c.all ++ takes x.slip.sender x.slip.number ∷ []) p h x (take_ordered r c p h out so k x (own_name a b h.tray x s) (told_tested section_code (r.credit (sheet_at h x.slip.receiver) x.slip.line x.slip.amount) y.1)) in
-    subst (λ i. (plain_run r (blank (arrived p h x).n) (c.all ++ takes i b ∷ [])).under_way ≡ slips_of (arrived p h x).tray) n.0 (subst (λ i. (plain_run r (blank (arrived p h x).n) (c.all ++ takes x.slip.sender i ∷ [])).under_way ≡ slips_of (arrived p h x).tray) n.1 t)
+    let t = arrived_tray r (c.all ++ take x.slip.sender x.slip.number ∷ []) p h x (take_ordered r c p h out so k x (own_name a b h.tray x s) (told_tested section_code (r.credit (sheet_at h x.slip.receiver) x.slip.line x.slip.amount) y.1)) in
+    subst (λ i. (plain_run r (blank (arrived p h x).n) (c.all ++ take i b ∷ [])).under_way ≡ slips_of (arrived p h x).tray) n.0 (subst (λ i. (plain_run r (blank (arrived p h x).n) (c.all ++ take x.slip.sender i ∷ [])).under_way ≡ slips_of (arrived p h x).tray) n.1 t)
 
 gathered_ordered : (m : Model) (r : Rule) (c : Cut) (x : HouseState m.State) (s : ℕ) → Ordered r c x.cells → Ordered r c (after_gather m x s).cells
 gathered_ordered m r c x s k = go (eqb s 0)
@@ -102,14 +103,14 @@ gathered_ordered m r c x s k = go (eqb s 0)
 
 module _ (m : Model) (ml : models.Lawful m) (rule : Rule) where
   granted_ordered : (c : Cut) (x : HouseState m.State) → Sound rule c x.phase x.cells (m.rules.outstanding x.method) → Ordered rule c x.cells → (call : Call) → AllYes (house_questions rule x.phase x.cells (m.rules.outstanding x.method) call) → Ordered rule (cut_after c call) (after m rule x call).cells
-  granted_ordered c x so k (enter s a b r) y =
-      ap (λ (q : PlainHouse). q.under_way) (run_push rule (blank x.cells.n) c.all (enters s a b r))
+  granted_ordered c x so k (event (enter s a b r)) y =
+      ap (λ (q : PlainHouse). q.under_way) (run_push rule (blank x.cells.n) c.all (enter s a b r))
       ∙ entry_stays rule (plain_run rule (blank x.cells.n) c.all) s a b r ∙ k
-  granted_ordered c x so k (post s to line amount) y =
+  granted_ordered c x so k (event (post s to line amount)) y =
       let q = and_parts _ _ y.0 in
       post_ordered rule c x.phase x.cells (m.rules.outstanding x.method) so k s to line amount q.0 q.1 (told_tested section_code (rule.debit (sheet_at x.cells s) line amount) y.1.1.1.1.1)
       ∙ sym (slips_push x.cells.tray (record { slip = posted_slip x.cells s to line amount; colour = (station_at x.cells s).colour }))
-  granted_ordered c x so k (take a b) y = taken_ordered rule c x.phase x.cells (m.rules.outstanding x.method) so k a b (under_way x.cells a b) refl y
+  granted_ordered c x so k (event (take a b)) y = taken_ordered rule c x.phase x.cells (m.rules.outstanding x.method) so k a b (under_way x.cells a b) refl y
   granted_ordered c x so k (open' s) y = k
   granted_ordered c x so k (turn s) y = k
   granted_ordered c x so k (gather s) y = gathered_ordered m rule c x s k

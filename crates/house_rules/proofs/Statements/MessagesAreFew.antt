@@ -8,7 +8,7 @@ use Rattle.common.specs.Questions.{first_no}
 use Rattle.house_rules.specs.declared.phase.Phase.{Phase}
 use Rattle.house_rules.specs.declared.slip.ColouredSlip.{ColouredSlip}
 use Rattle.house_rules.specs.declared.station.Station.{Station}
-use Rattle.house_rules.specs.Calls.EveryCall.{Call, Answer, house_questions, method_questions, questions, after, reply, enter, post, take, open', turn, gather, report, close, file, nothing, number, sum, sent, receipt, filed}
+use Rattle.house_rules.specs.Calls.EveryCall.{Call, Answer, house_questions, method_questions, questions, after, reply, open', turn, gather, report, close, file, nothing, number, sum, sent, receipt, filed, event}
 use Rattle.house_rules.specs.State.Changes.{with_cells}
 use Rattle.house_rules.specs.Theorem.Cut.{Cut, put, no_cut, cut_after}
 use Rattle.house_rules.specs.Calls.Gather.{gather_questions, sum_at, gathered_station, gathered_cells, root_questions, root_gathers, after_gather}
@@ -32,6 +32,7 @@ use Rattle.house_rules.proofs.Lists.Sums.{get_or-same}
 use Rattle.house_rules.proofs.Lists.Totals.{sum_n, sum_n_put, sum_n_none}
 use Rattle.house_rules.proofs.Invariant.PlainHouse.{put_other}
 use Rattle.methods.specs.Model as models
+use Rattle.house_rules.specs.Calls.Event.{enter, post, take}
 
 -- 1,000 for each late slip that is reported, and 1,000 once the root has gathered
 abbrev Few : (n : ℕ) → List Station → (late messages : ℕ) → Type 0
@@ -130,11 +131,11 @@ module _ (m : Model) (ml : models.Lawful m) (rule : Rule) (c : Cut) (x : HouseSt
       few_set x.cells.n (map cleared_station x.cells.stations) 0 0 (rw z (omega arith)) s ls (turned_station (station_at (cleared x.cells) s)) refl refl
 
   granted_few : (call : Call) → AllYes (house_questions rule x.phase x.cells (m.rules.outstanding x.method) call) → AllYes (method_questions m x call) → FewIn (after m rule x call).cells
-  granted_few (enter s a b r) y z = f
-  granted_few (post s to line amount) y z =
+  granted_few (event (enter s a b r)) y z = f
+  granted_few (event (post s to line amount)) y z =
       let q = and_parts _ _ y.0 in
       few_set h.n h.stations (length h.late) h.messages f s (below s (ltb-true s h.n q.0)) (posted_station (station_at h s)) refl refl
-  granted_few (take a b) y z = take_few a b (under_way h a b) refl
+  granted_few (event (take a b)) y z = take_few a b (under_way h a b) refl
   granted_few (open' s) y z = open_few s (ltb-true s h.n y.0)
   granted_few (turn s) y z = few_set h.n h.stations (length h.late) h.messages f s (below s (ltb-true s h.n y.0)) (turned_station (station_at h s)) refl refl
   granted_few (gather s) y z = gather_few s y z

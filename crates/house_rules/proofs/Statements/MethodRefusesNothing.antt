@@ -7,7 +7,7 @@ use Rattle.common.specs.Questions.{ask, number, told_as, first_no}
 use Rattle.house_rules.specs.declared.phase.Phase.{Phase}
 use Rattle.house_rules.specs.declared.slip.ColouredSlip.{ColouredSlip}
 use Rattle.house_rules.specs.Calls.Questions.{is_deficit}
-use Rattle.house_rules.specs.Calls.EveryCall.{Call, house_questions, method_questions, questions, after, reply, enter, post, take, open', turn, gather, report, close, file}
+use Rattle.house_rules.specs.Calls.EveryCall.{Call, house_questions, method_questions, questions, after, reply, open', turn, gather, report, close, file, event}
 use Rattle.house_rules.specs.Theorem.Cut.{cut_of}
 use Rattle.house_rules.specs.Theorem.Histories.{granted_calls}
 use Rattle.house_rules.specs.State.House.{Cells, sheet_at}
@@ -19,6 +19,7 @@ use Rattle.house_rules.proofs.Statements.CountsAreConsistent.{history_holds}
 use Rattle.house_rules.proofs.Calls.Outcome.{outcome_refused}
 use Rattle.house_rules.proofs.Statements.MethodIsAskedRightly.{method_yes, house_decides}
 use Rattle.methods.specs.Model as models
+use Rattle.house_rules.specs.Calls.Event.{enter, post, take}
 
 low_section : (qs : SectionQuestions) → Low (told_as section_code qs)
 low_section [] = tt
@@ -33,9 +34,9 @@ low_take rule p h (Some x) = (go (is_late p h x), (low_section (rule.credit (she
     go false = omega arith
 
 low_house : (rule : Rule) (p : Phase) (h : Cells) (out : ℕ) (call : Call) → Low (house_questions rule p h out call)
-low_house rule p h out (enter s a b r) = (omega arith, (omega arith, low_section (rule.entry (sheet_at h s) a b r)))
-low_house rule p h out (post s to line amount) = (omega arith, (omega arith, (omega arith, (omega arith, (omega arith, low_section (rule.debit (sheet_at h s) line amount))))))
-low_house rule p h out (take a b) = low_take rule p h (under_way h a b)
+low_house rule p h out (event (enter s a b r)) = (omega arith, (omega arith, low_section (rule.entry (sheet_at h s) a b r)))
+low_house rule p h out (event (post s to line amount)) = (omega arith, (omega arith, (omega arith, (omega arith, (omega arith, low_section (rule.debit (sheet_at h s) line amount))))))
+low_house rule p h out (event (take a b)) = low_take rule p h (under_way h a b)
 low_house rule p h out (open' s) = (omega arith, (omega arith, tt))
 low_house rule p h out (turn s) = (omega arith, (omega arith, (omega arith, tt)))
 low_house rule p h out (gather s) = (omega arith, (omega arith, (omega arith, (omega arith, (omega arith, tt)))))

@@ -7,7 +7,7 @@ use Rattle.common.specs.Questions.{first_no}
 use Rattle.house_rules.specs.declared.phase.Phase.{Phase}
 use Rattle.house_rules.specs.declared.phase.Phase.TheVariants.{Ready, Counting, Closed}
 use Rattle.house_rules.specs.declared.slip.ColouredSlip.{ColouredSlip}
-use Rattle.house_rules.specs.Calls.EveryCall.{Call, Answer, house_questions, method_questions, questions, after, reply, enter, post, take, open', turn, gather, report, close, file, nothing, number, sum, sent, receipt, filed}
+use Rattle.house_rules.specs.Calls.EveryCall.{Call, Answer, house_questions, method_questions, questions, after, reply, open', turn, gather, report, close, file, nothing, number, sum, sent, receipt, filed, event}
 use Rattle.house_rules.specs.State.Changes.{with_messages, with_cells}
 use Rattle.house_rules.specs.Theorem.Cut.{Cut, no_cut, cut_after}
 use Rattle.house_rules.specs.Calls.Enter.{entered_cells}
@@ -27,6 +27,7 @@ use Rattle.house_rules.proofs.Statements.CountsAreConsistent.{granted_holds, mad
 use Rattle.house_rules.proofs.Invariant.WholeHouse.{Holds}
 use Rattle.house_rules.proofs.Statements.MethodIsAskedRightly.{house_decides}
 use Rattle.methods.specs.Model as models
+use Rattle.house_rules.specs.Calls.Event.{enter, post, take}
 
 -- the cells with the messages set aside
 abbrev aside : Cells → Cells
@@ -39,9 +40,9 @@ take_questions_aside rule p h None = refl
 take_questions_aside rule p h (Some x) = refl
 
 questions_aside : (rule : Rule) (p : Phase) (h : Cells) (out : ℕ) (call : Call) → house_questions rule p h out call ≡ house_questions rule p (aside h) out call
-questions_aside rule p h out (enter s a b r) = refl
-questions_aside rule p h out (post s to line amount) = refl
-questions_aside rule p h out (take a b) = take_questions_aside rule p h (under_way h a b)
+questions_aside rule p h out (event (enter s a b r)) = refl
+questions_aside rule p h out (event (post s to line amount)) = refl
+questions_aside rule p h out (event (take a b)) = take_questions_aside rule p h (under_way h a b)
 questions_aside rule p h out (open' s) = refl
 questions_aside rule p h out (turn s) = refl
 questions_aside rule p h out (gather s) = refl
@@ -51,9 +52,9 @@ questions_aside rule p h out (file late_on_receipt text) = refl
 
 -- the answer of a granted call, messages aside
 abbrev plain_reply : Cells → Call → Answer
-plain_reply h (enter s a b r) = nothing
-plain_reply h (post s to line amount) = number ((station_at h s).posted + 1)
-plain_reply h (take a b) = nothing
+plain_reply h (event (enter s a b r)) = nothing
+plain_reply h (event (post s to line amount)) = number ((station_at h s).posted + 1)
+plain_reply h (event (take a b)) = nothing
 plain_reply h (open' s) = nothing
 plain_reply h (turn s) = nothing
 plain_reply h (gather s) = sum (sum_at h s)
@@ -62,9 +63,9 @@ plain_reply h close = receipt (length h.late) 0
 plain_reply h (file late_on_receipt text) = filed (length (text_of h)) (written_over (text_of h) text)
 
 reply_aside : (m : Model) (x : HouseState m.State) (call : Call) → messages_aside (reply m x call) ≡ plain_reply (aside x.cells) call
-reply_aside m x (enter s a b r) = refl
-reply_aside m x (post s to line amount) = refl
-reply_aside m x (take a b) = refl
+reply_aside m x (event (enter s a b r)) = refl
+reply_aside m x (event (post s to line amount)) = refl
+reply_aside m x (event (take a b)) = refl
 reply_aside m x (open' s) = refl
 reply_aside m x (turn s) = refl
 reply_aside m x (gather s) = refl
@@ -74,9 +75,9 @@ reply_aside m x (file late_on_receipt text) = refl
 
 -- the cells after a granted call, messages aside
 abbrev cells_after : Rule → Phase → Cells → Call → Cells
-cells_after rule p h (enter s a b r) = entered_cells rule h s a b r
-cells_after rule p h (post s to line amount) = posted_cells h s to line amount
-cells_after rule p h (take a b) = taken_cells p h (under_way h a b)
+cells_after rule p h (event (enter s a b r)) = entered_cells rule h s a b r
+cells_after rule p h (event (post s to line amount)) = posted_cells h s to line amount
+cells_after rule p h (event (take a b)) = taken_cells p h (under_way h a b)
 cells_after rule p h (open' s) = opened_cells h s
 cells_after rule p h (turn s) = turns h s
 cells_after rule p h (gather s) = gathered_cells h s
@@ -101,9 +102,9 @@ gather_aside m x s = go (eqb s 0)
     go false = refl
 
 after_aside : (m : Model) (rule : Rule) (x : HouseState m.State) (call : Call) → aside (after m rule x call).cells ≡ aside (cells_after rule x.phase (aside x.cells) call)
-after_aside m rule x (enter s a b r) = refl
-after_aside m rule x (post s to line amount) = refl
-after_aside m rule x (take a b) = taken_aside x.phase x.cells (under_way x.cells a b)
+after_aside m rule x (event (enter s a b r)) = refl
+after_aside m rule x (event (post s to line amount)) = refl
+after_aside m rule x (event (take a b)) = taken_aside x.phase x.cells (under_way x.cells a b)
 after_aside m rule x (open' s) = refl
 after_aside m rule x (turn s) = refl
 after_aside m rule x (gather s) = gather_aside m x s
@@ -112,9 +113,9 @@ after_aside m rule x close = refl
 after_aside m rule x (file late_on_receipt text) = refl
 
 abbrev phase_after : Phase → Call → Phase
-phase_after p (enter s a b r) = p
-phase_after p (post s to line amount) = p
-phase_after p (take a b) = p
+phase_after p (event (enter s a b r)) = p
+phase_after p (event (post s to line amount)) = p
+phase_after p (event (take a b)) = p
 phase_after p (open' s) = Counting
 phase_after p (turn s) = p
 phase_after p (gather s) = p
@@ -123,9 +124,9 @@ phase_after p close = Closed
 phase_after p (file late_on_receipt text) = Ready
 
 phase_after_lem : (m : Model) (rule : Rule) (x : HouseState m.State) (call : Call) → (after m rule x call).phase ≡ phase_after x.phase call
-phase_after_lem m rule x (enter s a b r) = refl
-phase_after_lem m rule x (post s to line amount) = refl
-phase_after_lem m rule x (take a b) = refl
+phase_after_lem m rule x (event (enter s a b r)) = refl
+phase_after_lem m rule x (event (post s to line amount)) = refl
+phase_after_lem m rule x (event (take a b)) = refl
 phase_after_lem m rule x (open' s) = refl
 phase_after_lem m rule x (turn s) = refl
 phase_after_lem m rule x (gather s) = go (eqb s 0)
@@ -171,9 +172,9 @@ module _ (m k : Model) (ml : models.Lawful m) (kl : models.Lawful k) (rule : Rul
       go false e = sa.outstanding
 
   same_outstanding : (c d : Cut) (x : HouseState m.State) (y : HouseState k.State) (call : Call) → Holds m rule c x → Holds k rule d y → Same m k x y → AllYes (method_questions m x call) → AllYes (method_questions k y call) → m.rules.outstanding (after m rule x call).method ≡ k.rules.outstanding (after k rule y call).method
-  same_outstanding c d x y (enter s a b r) hx hy sa yx yy = sa.outstanding
-  same_outstanding c d x y (post s to line amount) hx hy sa yx yy = sa.outstanding
-  same_outstanding c d x y (take a b) hx hy sa yx yy = sa.outstanding
+  same_outstanding c d x y (event (enter s a b r)) hx hy sa yx yy = sa.outstanding
+  same_outstanding c d x y (event (post s to line amount)) hx hy sa yx yy = sa.outstanding
+  same_outstanding c d x y (event (take a b)) hx hy sa yx yy = sa.outstanding
   same_outstanding c d x y (open' s) hx hy sa yx yy = sa.outstanding
   same_outstanding c d x y (turn s) hx hy sa yx yy = sa.outstanding
   same_outstanding c d x y (gather s) hx hy sa yx yy = gather_outstanding c d x y s hx hy sa yx yy

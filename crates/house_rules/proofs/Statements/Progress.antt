@@ -12,7 +12,7 @@ use Rattle.house_rules.specs.declared.phase.Phase.{Phase}
 use Rattle.house_rules.specs.declared.phase.Phase.TheVariants.{Counting}
 use Rattle.house_rules.specs.declared.slip.ColouredSlip.{ColouredSlip}
 use Rattle.house_rules.specs.declared.station.Station.{Station}
-use Rattle.house_rules.specs.Calls.EveryCall.{Call, house_questions, after, enter, post, take, open', turn, gather, report, close, file}
+use Rattle.house_rules.specs.Calls.EveryCall.{Call, house_questions, after, open', turn, gather, report, close, file, event}
 use Rattle.house_rules.specs.State.Changes.{with_messages, with_cells}
 use Rattle.house_rules.specs.Theorem.Cut.{put, Cut}
 use Rattle.house_rules.specs.Calls.Gather.{gathered_station, gathered_cells, root_gathers, after_gather}
@@ -33,6 +33,7 @@ use Rattle.house_rules.proofs.Lists.Slips.{find_named}
 use Rattle.house_rules.proofs.Invariant.Sound.{Sound}
 use Rattle.house_rules.proofs.Calls.Take.{late?}
 use Rattle.house_rules.proofs.Calls.Turn.{during_of}
+use Rattle.house_rules.specs.Calls.Event.{enter, post, take}
 
 -- the progress that the granted calls tell is the one that the cells are marked with
 pub record Kept (g : Progress) (p : Phase) (h : Cells) : Type 0 where
@@ -79,7 +80,7 @@ module _ (r : Rule) (c : Cut) (g : Progress) (p : Phase) (h : Cells) (out : ℕ)
       go false e = between e
       go true e = let ph = is_counting_lem p e in late? r c p h out so x here yes' (during_of r c p h out so ph) ph ∙ (let o : g.open? ≡ true = k.opened ∙ e in rw (o, q))
 
-  arrived_kept : (x : ColouredSlip) → find_coloured x.slip.sender x.slip.number h.tray ≡ Some x → all_yes (r.credit (sheet_at h x.slip.receiver) x.slip.line x.slip.amount) ≡ true → Kept (progress_after c g (take x.slip.sender x.slip.number)) p (arrived p h x)
+  arrived_kept : (x : ColouredSlip) → find_coloured x.slip.sender x.slip.number h.tray ≡ Some x → all_yes (r.credit (sheet_at h x.slip.receiver) x.slip.line x.slip.amount) ≡ true → Kept (progress_after c g (event (take x.slip.sender x.slip.number))) p (arrived p h x)
   arrived_kept x here yes' = go (is_late p h x) refl (turns_receiver p h x) refl
     where
       has : find x.slip.sender x.slip.number (slips_of h.tray) ≡ Some x.slip
@@ -94,20 +95,20 @@ module _ (r : Rule) (c : Cut) (g : Progress) (p : Phase) (h : Cells) (out : ℕ)
       with' : Bool → Progress
       with' b = record { open? = g.open?; gathered = g.gathered; late_takes = cond b (one_more g.late_takes x.slip.receiver) g.late_takes; reports = g.reports }
 
-      book : (b : Bool) → is_late p h x ≡ b → progress_after c g (take x.slip.sender x.slip.number) ≡ with' b
+      book : (b : Bool) → is_late p h x ≡ b → progress_after c g (event (take x.slip.sender x.slip.number)) ≡ with' b
       book b e = ap (λ p. record { open? = g.open?; gathered = g.gathered; late_takes = cond (late_take c g x.slip.sender x.slip.number) (one_more g.late_takes p) g.late_takes; reports = g.reports }) q ∙ ap with' (sym (late_same x here yes') ∙ e)
 
-      go : (b : Bool) → is_late p h x ≡ b → (t : Bool) → turns_receiver p h x ≡ t → Kept (progress_after c g (take x.slip.sender x.slip.number)) p (arrived p h x)
+      go : (b : Bool) → is_late p h x ≡ b → (t : Bool) → turns_receiver p h x ≡ t → Kept (progress_after c g (event (take x.slip.sender x.slip.number))) p (arrived p h x)
       go true e t et = subst (λ y. Kept y p (arrived p h x)) (sym (book true e)) (subst (λ y. Kept (with' true) p y) (let w : arrived p h x ≡ arrives_late h x = rw e in sym w) (late_kept x lt))
       go false e true et = subst (λ y. Kept y p (arrived p h x)) (sym (book false e)) (subst (λ y. Kept g p y) (let w : arrived p h x ≡ arrives (turns h x.slip.receiver) x = rw (e, et) in sym w) (arrives_kept (turns h x.slip.receiver) x (rw (length-set h.stations x.slip.receiver (turned_station (station_at h x.slip.receiver))) (below _ lt)) (turns_kept x.slip.receiver lt)))
       go false e false et = subst (λ y. Kept y p (arrived p h x)) (sym (book false e)) (subst (λ y. Kept g p y) (let w : arrived p h x ≡ arrives h x = rw (e, et) in sym w) (arrives_kept h x (below _ lt) k))
 
-  taken_kept : (a b : ℕ) (o : Option ColouredSlip) → under_way h a b ≡ o → AllYes (take_questions r p h o) → Kept (progress_after c g (take a b)) p (taken_cells p h o)
+  taken_kept : (a b : ℕ) (o : Option ColouredSlip) → under_way h a b ≡ o → AllYes (take_questions r p h o) → Kept (progress_after c g (event (take a b))) p (taken_cells p h o)
   taken_kept a b None s y = absurd (true≢false (sym y.0))
   taken_kept a b (Some x) s y =
       let n = find_named a b (slips_of h.tray) x.slip (find_coloured_lem a b h.tray x s) in
       let t = arrived_kept x (own_name a b h.tray x s) (told_tested section_code (r.credit (sheet_at h x.slip.receiver) x.slip.line x.slip.amount) y.1) in
-      subst (λ k. Kept (progress_after c g (take k b)) p (arrived p h x)) n.0 (subst (λ k. Kept (progress_after c g (take x.slip.sender k)) p (arrived p h x)) n.1 t)
+      subst (λ k. Kept (progress_after c g (event (take k b))) p (arrived p h x)) n.0 (subst (λ k. Kept (progress_after c g (event (take x.slip.sender k))) p (arrived p h x)) n.1 t)
 
   gather_kept : (s messages : ℕ) → ltb s h.n ≡ true → Kept (progress_after c g (gather s)) p (with_messages (gathered_cells h s) messages)
   gather_kept s messages lt =
@@ -159,12 +160,12 @@ module _ (m : Model) (rule : Rule) (c : Cut) (g : Progress) (x : HouseState m.St
       go false = gather_kept rule c g p h out so k s x.cells.messages lt
 
   pub granted_kept : (call : Call) → AllYes (house_questions rule x.phase x.cells (m.rules.outstanding x.method) call) → Kept (progress_after c g call) (after m rule x call).phase (after m rule x call).cells
-  granted_kept (enter s a b r) y = record { opened = k.opened; gathered = k.gathered; late_takes = k.late_takes }
-  granted_kept (post s to line amount) y =
+  granted_kept (event (enter s a b r)) y = record { opened = k.opened; gathered = k.gathered; late_takes = k.late_takes }
+  granted_kept (event (post s to line amount)) y =
       let q = and_parts _ _ y.0 in
       let e = kept_set g p h s (posted_station (station_at h s)) (rw so.shape.stations (ltb-true s h.n q.0)) refl refl k in
       record { opened = k.opened; gathered = e.0; late_takes = e.1 }
-  granted_kept (take a b) y = taken_kept rule c g p h out so k a b (under_way h a b) refl y
+  granted_kept (event (take a b)) y = taken_kept rule c g p h out so k a b (under_way h a b) refl y
   granted_kept (open' s) y = open_kept rule c g p h out so k s y.0
   granted_kept (turn s) y = turns_kept rule c g p h out so k s (ltb-true s h.n y.0)
   granted_kept (gather s) y = gathered_kept s y.0
