@@ -20,7 +20,6 @@ use Rattle.house_rules.proofs.Calls.OpenGatherReportFile.{turned_below}
 use Rattle.house_rules.proofs.Invariant.Sound.{During}
 use Rattle.house_rules.proofs.Lists.Totals.{sum_z, sum_z_same, sum_n_le, count}
 use Rattle.house_rules.proofs.Calls.Turn.{during_of}
-use Rattle.house_rules.specs.Calls.Event.{enter, post, take}
 
 pub count_le : (p : ℕ → ℕ → Bool) (xs : List ColouredSlip) → count p xs ≤ length xs
 count_le p [] = omega arith
@@ -91,9 +90,7 @@ module _ (m : Model) (rule : Rule) (c : Cut) (x : HouseState m.State) (k : Holds
       (lt-ltb s (m.rules.stations x.method) (rw st lt), (lt-ltb 0 (m.rules.outstanding x.method) (omega arith), tt))
 
   pub method_yes : (call : Call) → AllYes (house_questions rule x.phase x.cells (m.rules.outstanding x.method) call) → AllYes (method_questions m x call)
-  method_yes (event (enter s a b r)) y = tt
-  method_yes (event (post s to line amount)) y = tt
-  method_yes (event (take a b)) y = tt
+  method_yes (event e) y = tt
   method_yes (open' s) y = tt
   method_yes (turn s) y = tt
   method_yes (gather s) y = begin_yes s y

@@ -1,5 +1,5 @@
 -- Two houses that are made alike but for the method give the same responses and stay alike, messages aside.
-use Rattle.std.proofs.Common.{◌≡◌, ℕ, ◌+◌, Bool, true, false, cond, eqb, List, [], ◌∷◌, map, length, nat_abs, Some, None, Option, sym, refl, ap, ◌∙◌, subst, arith}
+use Rattle.std.proofs.Common.{◌≡◌, ℕ, Bool, true, false, cond, eqb, List, [], ◌∷◌, map, length, nat_abs, Some, None, Option, sym, refl, ap, ◌∙◌, subst, arith}
 use Rattle.std.proofs.lemmas.Bool.{eqb-true}
 use Rattle.sections.specs.Rule.{Rule}
 use Rattle.methods.specs.Model.{Model}
@@ -7,17 +7,15 @@ use Rattle.common.specs.Questions.{first_no}
 use Rattle.house_rules.specs.declared.phase.Phase.{Phase}
 use Rattle.house_rules.specs.declared.phase.Phase.TheVariants.{Ready, Counting, Closed}
 use Rattle.house_rules.specs.declared.slip.ColouredSlip.{ColouredSlip}
-use Rattle.house_rules.specs.Calls.EveryCall.{Call, Answer, house_questions, method_questions, questions, after, reply, open', turn, gather, report, close, file, nothing, number, sum, sent, receipt, filed, event}
+use Rattle.house_rules.specs.Calls.EveryCall.{Call, Answer, house_questions, method_questions, questions, after, reply, open', turn, gather, report, close, file, nothing, sum, sent, receipt, filed, event, event_reply, cells_after_event}
 use Rattle.house_rules.specs.State.Changes.{with_messages, with_cells}
 use Rattle.house_rules.specs.Theorem.Cut.{Cut, no_cut, cut_after}
-use Rattle.house_rules.specs.Calls.Enter.{entered_cells}
 use Rattle.house_rules.specs.Calls.File.{text_of, written_over}
 use Rattle.house_rules.specs.Calls.Gather.{sum_at, gathered_cells, root_questions, root_gathers, after_gather}
 use Rattle.house_rules.specs.Calls.Open.{opened_cells}
-use Rattle.house_rules.specs.Calls.Post.{posted_cells}
 use Rattle.house_rules.specs.Calls.Report.{reported_cells}
 use Rattle.house_rules.specs.Theorem.Histories.{Outcome, outcome, next, run, response_of, responses, refused_with, granted}
-use Rattle.house_rules.specs.State.House.{Cells, HouseState, station_at}
+use Rattle.house_rules.specs.State.House.{Cells, HouseState}
 use Rattle.house_rules.specs.Theorem.Statements.{messages_aside, response_aside, MethodsAgree}
 use Rattle.house_rules.specs.Calls.Take.{is_late, turns_receiver, take_questions, arrives, arrives_late, taken_cells, under_way}
 use Rattle.house_rules.specs.Calls.Turn.{turns}
@@ -52,9 +50,7 @@ questions_aside rule p h out (file late_on_receipt text) = refl
 
 -- the answer of a granted call, messages aside
 abbrev plain_reply : Cells → Call → Answer
-plain_reply h (event (enter s a b r)) = nothing
-plain_reply h (event (post s to line amount)) = number ((station_at h s).posted + 1)
-plain_reply h (event (take a b)) = nothing
+plain_reply h (event e) = event_reply h e
 plain_reply h (open' s) = nothing
 plain_reply h (turn s) = nothing
 plain_reply h (gather s) = sum (sum_at h s)
@@ -75,9 +71,7 @@ reply_aside m x (file late_on_receipt text) = refl
 
 -- the cells after a granted call, messages aside
 abbrev cells_after : Rule → Phase → Cells → Call → Cells
-cells_after rule p h (event (enter s a b r)) = entered_cells rule h s a b r
-cells_after rule p h (event (post s to line amount)) = posted_cells h s to line amount
-cells_after rule p h (event (take a b)) = taken_cells p h (under_way h a b)
+cells_after rule p h (event e) = cells_after_event rule p h e
 cells_after rule p h (open' s) = opened_cells h s
 cells_after rule p h (turn s) = turns h s
 cells_after rule p h (gather s) = gathered_cells h s
@@ -113,9 +107,7 @@ after_aside m rule x close = refl
 after_aside m rule x (file late_on_receipt text) = refl
 
 abbrev phase_after : Phase → Call → Phase
-phase_after p (event (enter s a b r)) = p
-phase_after p (event (post s to line amount)) = p
-phase_after p (event (take a b)) = p
+phase_after p (event e) = p
 phase_after p (open' s) = Counting
 phase_after p (turn s) = p
 phase_after p (gather s) = p
@@ -124,9 +116,7 @@ phase_after p close = Closed
 phase_after p (file late_on_receipt text) = Ready
 
 phase_after_lem : (m : Model) (rule : Rule) (x : HouseState m.State) (call : Call) → (after m rule x call).phase ≡ phase_after x.phase call
-phase_after_lem m rule x (event (enter s a b r)) = refl
-phase_after_lem m rule x (event (post s to line amount)) = refl
-phase_after_lem m rule x (event (take a b)) = refl
+phase_after_lem m rule x (event e) = refl
 phase_after_lem m rule x (open' s) = refl
 phase_after_lem m rule x (turn s) = refl
 phase_after_lem m rule x (gather s) = go (eqb s 0)
@@ -172,9 +162,7 @@ module _ (m k : Model) (ml : models.Lawful m) (kl : models.Lawful k) (rule : Rul
       go false e = sa.outstanding
 
   same_outstanding : (c d : Cut) (x : HouseState m.State) (y : HouseState k.State) (call : Call) → Holds m rule c x → Holds k rule d y → Same m k x y → AllYes (method_questions m x call) → AllYes (method_questions k y call) → m.rules.outstanding (after m rule x call).method ≡ k.rules.outstanding (after k rule y call).method
-  same_outstanding c d x y (event (enter s a b r)) hx hy sa yx yy = sa.outstanding
-  same_outstanding c d x y (event (post s to line amount)) hx hy sa yx yy = sa.outstanding
-  same_outstanding c d x y (event (take a b)) hx hy sa yx yy = sa.outstanding
+  same_outstanding c d x y (event e) hx hy sa yx yy = sa.outstanding
   same_outstanding c d x y (open' s) hx hy sa yx yy = sa.outstanding
   same_outstanding c d x y (turn s) hx hy sa yx yy = sa.outstanding
   same_outstanding c d x y (gather s) hx hy sa yx yy = gather_outstanding c d x y s hx hy sa yx yy
