@@ -9,7 +9,7 @@ use Rattle.house_rules.specs.Calls.Enter.{entered_cells}
 use Rattle.house_rules.specs.State.Names.{slips_of}
 use Rattle.house_rules.specs.State.House.{Cells, sheet_at}
 use Rattle.house_rules.proofs.Invariant.Cells.{cells_view, enter_acts}
-use Rattle.house_rules.proofs.Invariant.Parts.{by_phase, common_act, start_numbered}
+use Rattle.house_rules.proofs.Invariant.Shared.{by_phase, common_act, start_numbered}
 use Rattle.house_rules.proofs.Invariant.Sound.{During, Sound}
 use Rattle.house_rules.proofs.Invariant.Cut.{split_later, split_sooner}
 use Rattle.house_rules.proofs.Invariant.PlainHouse.{Acts, enter'}

@@ -15,18 +15,21 @@ use Rattle.house_rules.specs.Calls.Report.{arrived_questions}
 use Rattle.house_rules.specs.State.House.{Cells, HouseState, station_at, sheet_at}
 use Rattle.house_rules.specs.Calls.Take.{take_questions, arrived, taken_cells, under_way}
 use Rattle.common.proofs.AllYes.{AllYes, told_tested}
-use Rattle.house_rules.proofs.Statements.CloseIsACut.{close_sound}
+use Rattle.house_rules.proofs.Calls.Close.{close_sound}
 use Rattle.house_rules.proofs.Calls.Enter.{enter_sound}
 use Rattle.house_rules.proofs.Invariant.Cells.{find_coloured_lem}
 use Rattle.house_rules.proofs.Invariant.WholeHouse.{Holds}
 use Rattle.house_rules.proofs.Invariant.Phases.{is_counting_lem, is_ready_lem, is_closed_lem}
 use Rattle.house_rules.proofs.Calls.Post.{post_sound}
-use Rattle.house_rules.proofs.Calls.OpenGatherReportFile.{open_sound, file_sound, report_sound, gather_sound}
+use Rattle.house_rules.proofs.Calls.Open.{open_sound}
+use Rattle.house_rules.proofs.Calls.File.{file_sound}
+use Rattle.house_rules.proofs.Calls.Report.{report_sound}
+use Rattle.house_rules.proofs.Calls.Gather.{gather_sound}
 use Rattle.house_rules.proofs.Lists.Slips.{find_named}
 use Rattle.house_rules.proofs.Invariant.Sound.{Sound}
 use Rattle.house_rules.proofs.Calls.Take.{take_sound}
 use Rattle.house_rules.proofs.Calls.Turn.{during_of, turn_sound}
-use Rattle.house_rules.proofs.Statements.MethodIsAskedRightly.{fits_begin}
+use Rattle.house_rules.proofs.Calls.MethodQuestions.{fits_begin}
 use Rattle.methods.specs.Model as models
 use Rattle.house_rules.specs.Calls.Event.{enter, post, take}
 

@@ -19,7 +19,7 @@ use Rattle.house_rules.proofs.Invariant.Deficits.{balance_post_new, balance_post
 use Rattle.house_rules.proofs.Invariant.Colours.{Colouring, colouring_post}
 use Rattle.house_rules.proofs.Invariant.Cells.{cells_view, field_put, field_kept, slips_push, post_acts}
 use Rattle.house_rules.proofs.Invariant.Names.{Naming, find_push_at, fresh_tray, fresh_late, naming_post}
-use Rattle.house_rules.proofs.Invariant.Parts.{by_phase, colouring_as, balance_as, common_act, start_numbered, root_waits}
+use Rattle.house_rules.proofs.Invariant.Shared.{by_phase, colouring_as, balance_as, common_act, start_numbered, root_waits}
 use Rattle.house_rules.proofs.Invariant.PlainSteps.{none_yet}
 use Rattle.house_rules.proofs.Lists.Slips.{same_name_refl, same_name_true}
 use Rattle.house_rules.proofs.Invariant.Sound.{Between, Tree, During, Sound}

@@ -13,7 +13,7 @@ use Rattle.house_rules.specs.State.Names.{find, find_coloured, slips_of, named}
 use Rattle.house_rules.specs.State.House.{Cells, station_at, sheet_at, is_counting}
 use Rattle.house_rules.specs.Calls.Take.{is_late, turns_receiver, arrives, arrives_late, arrived}
 use Rattle.house_rules.specs.Calls.Turn.{turns}
-use Rattle.house_rules.proofs.Calls.Arrival.{arrives_shape, arrives_common, arrives_between, arrives_new, arrives_old, late_shape, late_common, late_during}
+use Rattle.house_rules.proofs.Calls.TakeArrives.{arrives_shape, arrives_common, arrives_between, arrives_new, arrives_old, late_shape, late_common, late_during}
 use Rattle.house_rules.proofs.Invariant.Colours.{shade}
 use Rattle.house_rules.proofs.Invariant.Cells.{cells_view, find_coloured_lem}
 use Rattle.house_rules.proofs.Invariant.Phases.{is_counting_lem}

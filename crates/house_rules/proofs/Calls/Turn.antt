@@ -11,7 +11,7 @@ use Rattle.house_rules.specs.Calls.Turn.{turned_station, turns}
 use Rattle.house_rules.proofs.Invariant.Deficits.{balance_turn}
 use Rattle.house_rules.proofs.Invariant.Colours.{colouring_turn}
 use Rattle.house_rules.proofs.Invariant.Cells.{cells_view, field_put, field_kept, turn_view, turn_shape}
-use Rattle.house_rules.proofs.Invariant.Parts.{colouring_as, balance_as}
+use Rattle.house_rules.proofs.Invariant.Shared.{colouring_as, balance_as}
 use Rattle.house_rules.proofs.Invariant.PlainSteps.{get_or-put}
 use Rattle.house_rules.proofs.Invariant.Sound.{start_view, Common, Between, Tree, During, ByPhase, Sound}
 use Rattle.house_rules.proofs.Invariant.Cut.{Split, split_turn}

@@ -21,17 +21,17 @@ use Rattle.house_rules.specs.Theorem.Histories.{outcome, step, next, run, only_d
 use Rattle.house_rules.specs.State.House.{Cells, HouseState, fresh, station_at, is_counting}
 use Rattle.house_rules.specs.Theorem.Statements.{CloseIsExact}
 use Rattle.common.proofs.AllYes.{all_yes_lem, no_first, yes_parts}
-use Rattle.house_rules.proofs.Statements.CloseIsACut.{owed, none_old}
-use Rattle.house_rules.proofs.Statements.CountsAreConsistent.{granted_holds, made_yes, made_holds, history_holds}
+use Rattle.house_rules.proofs.Calls.Close.{owed, none_old}
+use Rattle.house_rules.proofs.Statements.EveryHistory.{granted_holds, made_yes, made_holds, history_holds}
 use Rattle.house_rules.proofs.Invariant.WholeHouse.{Holds}
 use Rattle.house_rules.proofs.Invariant.Phases.{is_counting_lem}
 use Rattle.house_rules.proofs.Statements.HouseIsItsPlainRun.{history_ordered}
-use Rattle.house_rules.proofs.Statements.Progress.{Kept, granted_kept}
+use Rattle.house_rules.proofs.Calls.Progress.{Kept, granted_kept}
 use Rattle.house_rules.proofs.Invariant.Sound.{Sound, all_gathered}
 use Rattle.house_rules.proofs.Lists.Sums.{get_or-same}
 use Rattle.house_rules.proofs.Lists.Totals.{sum_n, sum_n_zero, sum_n_none, count, count_none}
 use Rattle.house_rules.proofs.Calls.Turn.{during_of}
-use Rattle.house_rules.proofs.Statements.MethodIsAskedRightly.{house_decides}
+use Rattle.house_rules.proofs.Calls.MethodQuestions.{house_decides}
 use Rattle.methods.specs.Model as models
 
 module _ (m : Model) (ml : models.Lawful m) (rule : Rule) where

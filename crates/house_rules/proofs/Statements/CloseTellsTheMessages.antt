@@ -13,7 +13,7 @@ use Rattle.house_rules.specs.Theorem.Histories.{outcome, next, run, History}
 use Rattle.house_rules.specs.State.House.{Cells, HouseState}
 use Rattle.house_rules.specs.Calls.Take.{is_late, turns_receiver, arrives, arrives_late, taken_cells, under_way}
 use Rattle.house_rules.specs.Calls.Turn.{turns}
-use Rattle.house_rules.proofs.Statements.CountsAreConsistent.{made_yes}
+use Rattle.house_rules.proofs.Statements.EveryHistory.{made_yes}
 use Rattle.house_rules.proofs.Calls.Outcome.{outcome_answer, step_done}
 use Rattle.house_rules.specs.Calls.Event.{enter, post, take}
 

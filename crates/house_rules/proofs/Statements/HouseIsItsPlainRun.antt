@@ -22,9 +22,9 @@ use Rattle.house_rules.specs.Calls.Take.{take_questions, is_late, turns_receiver
 use Rattle.house_rules.specs.Calls.Turn.{turns}
 use Rattle.house_rules.proofs.Calls.EveryCall.{own_name}
 use Rattle.common.proofs.AllYes.{AllYes, told_tested, all_yes_lem, yes_parts}
-use Rattle.house_rules.proofs.Statements.CloseIsACut.{fine_blank}
+use Rattle.house_rules.proofs.Invariant.Shared.{fine_blank}
 use Rattle.house_rules.proofs.Invariant.Cells.{cells_view, find_coloured_lem, slips_less, slips_push}
-use Rattle.house_rules.proofs.Statements.CountsAreConsistent.{granted_holds, made_yes, made_holds, history_holds}
+use Rattle.house_rules.proofs.Statements.EveryHistory.{granted_holds, made_yes, made_holds, history_holds}
 use Rattle.house_rules.proofs.Invariant.WholeHouse.{Holds}
 use Rattle.house_rules.proofs.Invariant.PlainSteps.{plain_view, Fine, Plays, plays_run, plays_refuses_none, plays_all}
 use Rattle.house_rules.proofs.Lists.Slips.{find_named}

@@ -24,10 +24,10 @@ use Rattle.house_rules.specs.Calls.Turn.{turned_station, turns}
 use Rattle.common.proofs.AllYes.{AllYes, all_yes_lem, yes_parts}
 use Rattle.house_rules.proofs.Invariant.Cells.{field_put, field_kept, find_coloured_lem}
 use Rattle.house_rules.proofs.Calls.EveryCall.{can_begin, can_arrive}
-use Rattle.house_rules.proofs.Statements.CountsAreConsistent.{granted_holds, made_yes, made_holds}
+use Rattle.house_rules.proofs.Statements.EveryHistory.{granted_holds, made_yes, made_holds}
 use Rattle.house_rules.proofs.Invariant.WholeHouse.{Holds}
 use Rattle.house_rules.proofs.Calls.Outcome.{outcome_answer}
-use Rattle.house_rules.proofs.Calls.OpenGatherReportFile.{mapped}
+use Rattle.house_rules.proofs.Calls.Open.{mapped}
 use Rattle.house_rules.proofs.Lists.Sums.{get_or-same}
 use Rattle.house_rules.proofs.Lists.Totals.{sum_n, sum_n_put, sum_n_none}
 use Rattle.house_rules.proofs.Invariant.PlainHouse.{put_other}

@@ -15,9 +15,9 @@ use Rattle.house_rules.specs.Theorem.Statements.{MethodRefusesNothing}
 use Rattle.house_rules.specs.Calls.Take.{is_late, running_after, take_questions, under_way}
 use Rattle.common.proofs.AllYes.{all_yes_lem, no_first}
 use Rattle.house_rules.proofs.Lists.Questions.{Low, low_first}
-use Rattle.house_rules.proofs.Statements.CountsAreConsistent.{history_holds}
+use Rattle.house_rules.proofs.Statements.EveryHistory.{history_holds}
 use Rattle.house_rules.proofs.Calls.Outcome.{outcome_refused}
-use Rattle.house_rules.proofs.Statements.MethodIsAskedRightly.{method_yes, house_decides}
+use Rattle.house_rules.proofs.Calls.MethodQuestions.{method_yes, house_decides}
 use Rattle.methods.specs.Model as models
 use Rattle.house_rules.specs.Calls.Event.{enter, post, take}
 

@@ -21,9 +21,9 @@ use Rattle.house_rules.specs.Calls.Take.{is_late, turns_receiver, take_questions
 use Rattle.house_rules.specs.Calls.Turn.{turns}
 use Rattle.house_rules.proofs.Calls.EveryCall.{begun_left, arrived_left}
 use Rattle.common.proofs.AllYes.{AllYes, all_yes_lem, yes_parts}
-use Rattle.house_rules.proofs.Statements.CountsAreConsistent.{granted_holds, made_yes, made_holds}
+use Rattle.house_rules.proofs.Statements.EveryHistory.{granted_holds, made_yes, made_holds}
 use Rattle.house_rules.proofs.Invariant.WholeHouse.{Holds}
-use Rattle.house_rules.proofs.Statements.MethodIsAskedRightly.{house_decides}
+use Rattle.house_rules.proofs.Calls.MethodQuestions.{house_decides}
 use Rattle.methods.specs.Model as models
 use Rattle.house_rules.specs.Calls.Event.{enter, post, take}
 

@@ -12,11 +12,11 @@ use Rattle.house_rules.specs.Calls.Gather.{gather_questions, sum_at, root_questi
 use Rattle.house_rules.specs.Calls.Report.{report_questions, arrived_questions}
 use Rattle.house_rules.specs.State.House.{HouseState, station_at}
 use Rattle.common.proofs.AllYes.{AllYes, first_decide}
-use Rattle.house_rules.proofs.Statements.CloseIsACut.{owed}
+use Rattle.house_rules.proofs.Calls.Close.{owed}
 use Rattle.house_rules.proofs.Invariant.GatheredSum.{root_sum}
 use Rattle.house_rules.proofs.Invariant.WholeHouse.{Holds}
 use Rattle.house_rules.proofs.Invariant.Phases.{is_counting_lem}
-use Rattle.house_rules.proofs.Calls.OpenGatherReportFile.{turned_below}
+use Rattle.house_rules.proofs.Calls.Gather.{turned_below}
 use Rattle.house_rules.proofs.Invariant.Sound.{During}
 use Rattle.house_rules.proofs.Lists.Totals.{sum_z, sum_z_same, sum_n_le, count}
 use Rattle.house_rules.proofs.Calls.Turn.{during_of}

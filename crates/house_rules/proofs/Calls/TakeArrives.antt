@@ -16,7 +16,7 @@ use Rattle.house_rules.proofs.Invariant.Deficits.{Balance, balance_take_new, bal
 use Rattle.house_rules.proofs.Invariant.Colours.{Colouring, all_less, colouring_less, colouring_late}
 use Rattle.house_rules.proofs.Invariant.Cells.{cells_view, Shape, field_put, field_kept, slips_less, slips_push, late_acts, take_acts}
 use Rattle.house_rules.proofs.Invariant.Names.{Naming, not_found, find_push_at, naming_less, naming_late}
-use Rattle.house_rules.proofs.Invariant.Parts.{colouring_as, balance_as, common_act, start_numbered, root_waits}
+use Rattle.house_rules.proofs.Invariant.Shared.{colouring_as, balance_as, common_act, start_numbered, root_waits}
 use Rattle.house_rules.proofs.Lists.Slips.{same_name_true, find_without}
 use Rattle.house_rules.proofs.Invariant.Sound.{Common, Between, Tree, During, Sound}
 use Rattle.house_rules.proofs.Invariant.Cut.{pending, split_later, split_sooner}

@@ -28,7 +28,7 @@ use Rattle.house_rules.proofs.Calls.EveryCall.{own_name}
 use Rattle.common.proofs.AllYes.{AllYes, told_tested}
 use Rattle.house_rules.proofs.Invariant.Cells.{field_put, field_kept, find_coloured_lem}
 use Rattle.house_rules.proofs.Invariant.Phases.{is_counting_lem, is_closed_lem}
-use Rattle.house_rules.proofs.Calls.OpenGatherReportFile.{mapped}
+use Rattle.house_rules.proofs.Calls.Open.{mapped}
 use Rattle.house_rules.proofs.Lists.Slips.{find_named}
 use Rattle.house_rules.proofs.Invariant.Sound.{Sound}
 use Rattle.house_rules.proofs.Calls.Take.{late?}
