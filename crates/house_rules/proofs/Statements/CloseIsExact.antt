@@ -11,18 +11,18 @@ use Rattle.house_rules.specs.declared.phase.Phase.{Phase}
 use Rattle.house_rules.specs.declared.phase.Phase.TheVariants.{Ready}
 use Rattle.house_rules.specs.declared.slip.ColouredSlip.{ColouredSlip}
 use Rattle.house_rules.specs.declared.slip.Slip.{Slip}
-use Rattle.house_rules.specs.Calls.EveryCall.{Call, Answer, house_questions, method_questions, questions, after, reply, close}
+use Rattle.house_rules.specs.Calls.EveryCall.{Answer, questions, after, reply, close}
 use Rattle.house_rules.specs.Calls.Close.{close_questions}
-use Rattle.house_rules.specs.Theorem.Cut.{Cut, no_cut, cut_after, cut_of}
+use Rattle.house_rules.specs.Theorem.Cut.{Cut, cut_of}
 use Rattle.house_rules.specs.Calls.Make.{Handed, made_cells}
 use Rattle.house_rules.specs.State.Names.{slips_of}
-use Rattle.house_rules.specs.Theorem.Progress.{Progress, no_progress, progress_after, progress_after_all, progress_of, Complete}
-use Rattle.house_rules.specs.Theorem.Histories.{outcome, step, next, run, only_done, granted_among, is_done, History, granted_calls}
+use Rattle.house_rules.specs.Theorem.Progress.{Progress, no_progress, progress_of, Complete}
+use Rattle.house_rules.specs.Theorem.Histories.{outcome, step, is_done, History, granted_calls}
 use Rattle.house_rules.specs.State.House.{Cells, HouseState, fresh, station_at, is_counting}
 use Rattle.house_rules.specs.Theorem.Statements.{CloseIsExact}
-use Rattle.common.proofs.AllYes.{all_yes_lem, no_first, yes_parts}
+use Rattle.common.proofs.AllYes.{all_yes_lem, no_first}
 use Rattle.house_rules.proofs.Calls.Close.{owed, none_old}
-use Rattle.house_rules.proofs.Statements.EveryHistory.{granted_holds, made_yes, made_holds, history_holds}
+use Rattle.house_rules.proofs.Statements.EveryHistory.{history_holds, history_keeps}
 use Rattle.house_rules.proofs.Invariant.WholeHouse.{Holds}
 use Rattle.house_rules.proofs.Invariant.Phases.{is_counting_lem}
 use Rattle.house_rules.proofs.Statements.HouseIsItsPlainRun.{history_ordered}
@@ -34,26 +34,12 @@ use Rattle.house_rules.proofs.Calls.Turn.{during_of}
 use Rattle.house_rules.proofs.Calls.MethodQuestions.{house_decides}
 use Rattle.methods.specs.Model as models
 
-module _ (m : Model) (ml : models.Lawful m) (rule : Rule) where
-  run_kept : (calls : List Call) (c : Cut) (g : Progress) (x : HouseState m.State) → Holds m rule c x → Kept g x.phase x.cells → Kept (progress_after_all c g (granted_among m rule x calls)) (run m rule x calls).phase (run m rule x calls).cells
-  run_kept [] c g x k kept = kept
-  run_kept (call ∷ calls) c g x k kept = go (first_no (questions m rule x call)) refl (λ c' g' x' k' kept'. run_kept calls c' g' x' k' kept')
-    where
-      go : (o : Option (ℕ × ℕ × ℕ)) → first_no (questions m rule x call) ≡ o → ((c' : Cut) (g' : Progress) (x' : HouseState m.State) → Holds m rule c' x' → Kept g' x'.phase x'.cells → Kept (progress_after_all c' g' (granted_among m rule x' calls)) (run m rule x' calls).phase (run m rule x' calls).cells) → Kept (progress_after_all c g (only_done (outcome o (after m rule x call) (reply m x call)) call (granted_among m rule (next x (outcome o (after m rule x call) (reply m x call))) calls))) (run m rule (next x (outcome o (after m rule x call) (reply m x call))) calls).phase (run m rule (next x (outcome o (after m rule x call) (reply m x call))) calls).cells
-      go None e ih =
-          let y = yes_parts (house_questions rule x.phase x.cells (m.rules.outstanding x.method) call) (method_questions m x call) (all_yes_lem (questions m rule x call) e) in
-          ih (cut_after c call) (progress_after c g call) (after m rule x call) (granted_holds m ml rule c x call k e) (granted_kept m rule c g x k.sound kept call y.0)
-      go (Some code) e ih = ih c g x k kept
-
 made_kept : (handed : Handed) → Kept no_progress Ready (made_cells handed)
 made_kept handed = record { opened = refl; gathered = fun_ext (λ s. ap (λ u. u.gathered) (sym (get_or-same handed.n fresh s))); late_takes = λ s. let e : (station_at (made_cells handed) s).unreported ≡ 0 = ap (λ u. u.unreported) (get_or-same handed.n fresh s) in omega arith }
 
 history_kept : (m : Model) → models.Lawful m → (rule : Rule) (x : HouseState m.State) (history : History m rule x) → Kept (progress_of (granted_calls m rule x history)) x.phase x.cells
 history_kept m ml rule x history =
-    let g = made_yes m history.handed history.method history.first history.made in
-    let k = made_holds m rule history.handed history.method history.valid g.0 in
-    subst (λ (y : HouseState m.State). Kept (progress_of (granted_calls m rule x history)) y.phase y.cells) history.leads
-    (run_kept m ml rule history.calls no_cut no_progress history.first (subst (λ y. Holds m rule no_cut y) (sym g.1) k) (subst (λ (y : HouseState m.State). Kept no_progress y.phase y.cells) (sym g.1) (made_kept history.handed)))
+    history_keeps m ml rule (λ c g x. Kept g x.phase x.cells) (λ handed q. made_kept handed) (λ c g x k kept call y z. granted_kept m rule c g x k.sound kept call y) x history
 
 -- the slips of a tray, without and with their colours
 all_plain : (P : Slip → Type 0) (xs : List ColouredSlip) → AllByRecursion (λ (x : ColouredSlip). P x.slip) xs → AllByRecursion P (slips_of xs)

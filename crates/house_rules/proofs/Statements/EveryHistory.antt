@@ -1,4 +1,4 @@
--- Every history keeps the invariant: what the statements rest on.
+-- Every history keeps the invariant, and what every granted call keeps beside it; all statements of histories rest on this.
 use Rattle.std.proofs.Common.{◌≡◌, ℕ, ◌&&◌, leb, List, [], ◌∷◌, Some, None, Option, sym, refl, subst, arith}
 use Rattle.std.proofs.lemmas.Bool.{true≢false, eqb-true, leb-true, and_parts}
 use Rattle.sections.specs.Rule.{Rule}
@@ -17,6 +17,7 @@ use Rattle.house_rules.proofs.Calls.Outcome.{done_same, never_done}
 use Rattle.house_rules.proofs.Calls.Room.{granted_room}
 use Rattle.house_rules.proofs.Calls.Served.{granted_served}
 use Rattle.methods.specs.Model as models
+use Rattle.house_rules.specs.Theorem.Progress.{Progress, no_progress, progress_after, progress_after_all, progress_of}
 
 module _ (m : Model) (ml : models.Lawful m) (rule : Rule) where
   pub granted_holds : (c : Cut) (x : HouseState m.State) (call : Call) → Holds m rule c x → first_no (questions m rule x call) ≡ None → Holds m rule (cut_after c call) (after m rule x call)
@@ -59,3 +60,22 @@ history_holds m ml rule x history =
     let k = made_holds m rule history.handed history.method history.valid g.0 in
     subst (λ y. Holds m rule (cut_of (granted_calls m rule x history)) y) history.leads
     (run_holds m ml rule history.calls no_cut history.first (subst (λ y. Holds m rule no_cut y) (sym g.1) k))
+
+-- what holds of a made house, and what every granted call keeps, holds after every history
+module _ (m : Model) (ml : models.Lawful m) (rule : Rule) (P : Cut → Progress → HouseState m.State → Type 0) (made : (handed : Handed) (q : m.State) → P no_cut no_progress (made_house handed q)) (keeps : (c : Cut) (g : Progress) (x : HouseState m.State) → Holds m rule c x → P c g x → (call : Call) → AllYes (house_questions rule x.phase x.cells (m.rules.outstanding x.method) call) → AllYes (method_questions m x call) → P (cut_after c call) (progress_after c g call) (after m rule x call)) where
+  run_keeps : (calls : List Call) (c : Cut) (g : Progress) (x : HouseState m.State) → Holds m rule c x → P c g x → P (cut_after_all c (granted_among m rule x calls)) (progress_after_all c g (granted_among m rule x calls)) (run m rule x calls)
+  run_keeps [] c g x k w = w
+  run_keeps (call ∷ calls) c g x k w = go (first_no (questions m rule x call)) refl (λ c' g' x' k' w'. run_keeps calls c' g' x' k' w')
+    where
+      go : (o : Option (ℕ × ℕ × ℕ)) → first_no (questions m rule x call) ≡ o → ((c' : Cut) (g' : Progress) (x' : HouseState m.State) → Holds m rule c' x' → P c' g' x' → P (cut_after_all c' (granted_among m rule x' calls)) (progress_after_all c' g' (granted_among m rule x' calls)) (run m rule x' calls)) → P (cut_after_all c (only_done (outcome o (after m rule x call) (reply m x call)) call (granted_among m rule (next x (outcome o (after m rule x call) (reply m x call))) calls))) (progress_after_all c g (only_done (outcome o (after m rule x call) (reply m x call)) call (granted_among m rule (next x (outcome o (after m rule x call) (reply m x call))) calls))) (run m rule (next x (outcome o (after m rule x call) (reply m x call))) calls)
+      go None e ih =
+          let y = yes_parts (house_questions rule x.phase x.cells (m.rules.outstanding x.method) call) (method_questions m x call) (all_yes_lem (questions m rule x call) e) in
+          ih (cut_after c call) (progress_after c g call) (after m rule x call) (granted_holds m ml rule c x call k e) (keeps c g x k w call y.0 y.1)
+      go (Some code) e ih = ih c g x k w
+
+  pub history_keeps : (x : HouseState m.State) (history : History m rule x) → P (cut_of (granted_calls m rule x history)) (progress_of (granted_calls m rule x history)) x
+  history_keeps x history =
+      let g = made_yes m history.handed history.method history.first history.made in
+      let k = made_holds m rule history.handed history.method history.valid g.0 in
+      subst (λ y. P (cut_of (granted_calls m rule x history)) (progress_of (granted_calls m rule x history)) y) history.leads
+      (run_keeps history.calls no_cut no_progress history.first (subst (λ y. Holds m rule no_cut y) (sym g.1) k) (subst (λ y. P no_cut no_progress y) (sym g.1) (made history.handed history.method)))

@@ -5,27 +5,26 @@ use Rattle.std.proofs.lemmas.Bool.{true≢false, and_parts}
 use Rattle.sections.specs.Codes.{section_code}
 use Rattle.sections.specs.Rule.{Rule, entered}
 use Rattle.methods.specs.Model.{Model}
-use Rattle.common.specs.Questions.{first_no, all_yes}
+use Rattle.common.specs.Questions.{all_yes}
 use Rattle.house_rules.specs.declared.phase.Phase.{Phase}
 use Rattle.house_rules.specs.declared.slip.ColouredSlip.{ColouredSlip}
-use Rattle.house_rules.specs.Calls.EveryCall.{Call, house_questions, method_questions, questions, after, reply, open', turn, gather, report, close, file, event}
+use Rattle.house_rules.specs.Calls.EveryCall.{Call, house_questions, after, open', turn, gather, report, close, file, event}
 use Rattle.house_rules.specs.State.Changes.{with_cells}
-use Rattle.house_rules.specs.Theorem.Cut.{Cut, no_cut, cut_after, cut_after_all, cut_of}
+use Rattle.house_rules.specs.Theorem.Cut.{Cut, cut_after, cut_of}
 use Rattle.house_rules.specs.Calls.Gather.{gathered_cells, root_gathers, after_gather}
 use Rattle.house_rules.specs.State.Names.{without, find_coloured, slips_of}
 use Rattle.house_rules.specs.Theorem.PlainHouse.{PlainHouse, plain_step, or_stays, plain_run, RefusesNone, blank}
 use Rattle.house_rules.specs.Calls.Post.{posted_slip}
-use Rattle.house_rules.specs.Theorem.Histories.{outcome, next, run, only_done, granted_among, History, granted_calls}
+use Rattle.house_rules.specs.Theorem.Histories.{History, granted_calls}
 use Rattle.house_rules.specs.State.House.{Cells, HouseState, station_at, sheet_at}
 use Rattle.house_rules.specs.Theorem.Statements.{HouseIsItsPlainRun}
 use Rattle.house_rules.specs.Calls.Take.{take_questions, is_late, turns_receiver, arrives, arrives_late, arrived, taken_cells, under_way}
 use Rattle.house_rules.specs.Calls.Turn.{turns}
 use Rattle.house_rules.proofs.Calls.EveryCall.{own_name}
-use Rattle.common.proofs.AllYes.{AllYes, told_tested, all_yes_lem, yes_parts}
+use Rattle.common.proofs.AllYes.{AllYes, told_tested}
 use Rattle.house_rules.proofs.Invariant.Shared.{fine_blank}
 use Rattle.house_rules.proofs.Invariant.Cells.{cells_view, find_coloured_lem, slips_less, slips_push}
-use Rattle.house_rules.proofs.Statements.EveryHistory.{granted_holds, made_yes, made_holds, history_holds}
-use Rattle.house_rules.proofs.Invariant.WholeHouse.{Holds}
+use Rattle.house_rules.proofs.Statements.EveryHistory.{history_holds, history_keeps}
 use Rattle.house_rules.proofs.Invariant.PlainSteps.{plain_view, Fine, Plays, plays_run, plays_refuses_none, plays_all}
 use Rattle.house_rules.proofs.Lists.Slips.{find_named}
 use Rattle.house_rules.proofs.Invariant.Sound.{Sound}
@@ -101,7 +100,7 @@ gathered_ordered m r c x s k = go (eqb s 0)
     go true = k
     go false = k
 
-module _ (m : Model) (ml : models.Lawful m) (rule : Rule) where
+module _ (m : Model) (rule : Rule) where
   granted_ordered : (c : Cut) (x : HouseState m.State) → Sound rule c x.phase x.cells (m.rules.outstanding x.method) → Ordered rule c x.cells → (call : Call) → AllYes (house_questions rule x.phase x.cells (m.rules.outstanding x.method) call) → Ordered rule (cut_after c call) (after m rule x call).cells
   granted_ordered c x so k (event (enter s a b r)) y =
       ap (λ (q : PlainHouse). q.under_way) (run_push rule (blank x.cells.n) c.all (enter s a b r))
@@ -118,22 +117,9 @@ module _ (m : Model) (ml : models.Lawful m) (rule : Rule) where
   granted_ordered c x so k close y = k
   granted_ordered c x so k (file late_on_receipt text) y = k
 
-  run_ordered : (calls : List Call) (c : Cut) (x : HouseState m.State) → Holds m rule c x → Ordered rule c x.cells → Ordered rule (cut_after_all c (granted_among m rule x calls)) (run m rule x calls).cells
-  run_ordered [] c x k o = o
-  run_ordered (call ∷ calls) c x k o = go (first_no (questions m rule x call)) refl (λ c' x' k' o'. run_ordered calls c' x' k' o')
-    where
-      go : (f : Option (ℕ × ℕ × ℕ)) → first_no (questions m rule x call) ≡ f → ((c' : Cut) (x' : HouseState m.State) → Holds m rule c' x' → Ordered rule c' x'.cells → Ordered rule (cut_after_all c' (granted_among m rule x' calls)) (run m rule x' calls).cells) → Ordered rule (cut_after_all c (only_done (outcome f (after m rule x call) (reply m x call)) call (granted_among m rule (next x (outcome f (after m rule x call) (reply m x call))) calls))) (run m rule (next x (outcome f (after m rule x call) (reply m x call))) calls).cells
-      go None e ih =
-          let y = yes_parts (house_questions rule x.phase x.cells (m.rules.outstanding x.method) call) (method_questions m x call) (all_yes_lem (questions m rule x call) e) in
-          ih (cut_after c call) (after m rule x call) (granted_holds m ml rule c x call k e) (granted_ordered c x k.sound o call y.0)
-      go (Some code) e ih = ih c x k o
-
 pub history_ordered : (m : Model) → models.Lawful m → (rule : Rule) (x : HouseState m.State) (history : History m rule x) → (plain_run rule (blank x.cells.n) (cut_of (granted_calls m rule x history)).all).under_way ≡ slips_of x.cells.tray
 history_ordered m ml rule x history =
-    let g = made_yes m history.handed history.method history.first history.made in
-    let k = made_holds m rule history.handed history.method history.valid g.0 in
-    subst (λ (y : HouseState m.State). Ordered rule (cut_of (granted_calls m rule x history)) y.cells) history.leads
-    (run_ordered m ml rule history.calls no_cut history.first (subst (λ y. Holds m rule no_cut y) (sym g.1) k) (subst (λ (y : HouseState m.State). Ordered rule no_cut y.cells) (sym g.1) refl))
+    history_keeps m ml rule (λ c g x. Ordered rule c x.cells) (λ handed q. refl) (λ c g x k o call y z. granted_ordered m rule c x k.sound o call y) x history
 
 pub house_is_its_plain_run : (m : Model) → models.Lawful m → HouseIsItsPlainRun m
 house_is_its_plain_run m ml rule x history =

@@ -1,5 +1,5 @@
 -- At a close the messages are at most 1,000 for each late slip, and 1,000 more.
-use Rattle.std.proofs.Common.{◌≡◌, ℕ, ◌+◌, ◌-◌, ◌*◌, ◌<◌, ◌≤◌, Bool, true, false, cond, eqb, List, [], ◌∷◌, map, length, get_or, set, nat_abs, Some, None, Option, sym, refl, ap, ◌∙◌, subst, arith}
+use Rattle.std.proofs.Common.{◌≡◌, ℕ, ◌+◌, ◌-◌, ◌*◌, ◌<◌, ◌≤◌, Bool, true, false, cond, eqb, List, map, length, get_or, set, nat_abs, Some, None, Option, sym, refl, ap, ◌∙◌, subst, arith}
 use Rattle.std.proofs.lemmas.List.{length-set, length-map, length_push}
 use Rattle.std.proofs.lemmas.Bool.{eqb-true, eqb-false, ltb-true, and_parts, not-true}
 use Rattle.sections.specs.Rule.{Rule}
@@ -10,21 +10,21 @@ use Rattle.house_rules.specs.declared.slip.ColouredSlip.{ColouredSlip}
 use Rattle.house_rules.specs.declared.station.Station.{Station}
 use Rattle.house_rules.specs.Calls.EveryCall.{Call, Answer, house_questions, method_questions, questions, after, reply, open', turn, gather, report, close, file, nothing, number, sum, sent, receipt, filed, event}
 use Rattle.house_rules.specs.State.Changes.{with_cells}
-use Rattle.house_rules.specs.Theorem.Cut.{Cut, put, no_cut, cut_after}
+use Rattle.house_rules.specs.Theorem.Cut.{Cut, put}
 use Rattle.house_rules.specs.Calls.Gather.{gather_questions, sum_at, gathered_station, gathered_cells, root_questions, root_gathers, after_gather}
 use Rattle.house_rules.specs.Calls.Make.{Handed, made_cells}
 use Rattle.house_rules.specs.Theorem.Messages.{MessagesAreFew}
 use Rattle.house_rules.specs.Calls.Open.{cleared_station, cleared, opened_cells}
 use Rattle.house_rules.specs.Calls.Post.{posted_station}
 use Rattle.house_rules.specs.Calls.Report.{reported_station}
-use Rattle.house_rules.specs.Theorem.Histories.{outcome, next, run, History}
+use Rattle.house_rules.specs.Theorem.Histories.{History}
 use Rattle.house_rules.specs.State.House.{Cells, HouseState, fresh, station_at}
 use Rattle.house_rules.specs.Calls.Take.{is_late, turns_receiver, took_station, late_station, arrives, arrives_late, taken_cells, under_way}
 use Rattle.house_rules.specs.Calls.Turn.{turned_station, turns}
-use Rattle.common.proofs.AllYes.{AllYes, all_yes_lem, yes_parts}
+use Rattle.common.proofs.AllYes.{AllYes}
 use Rattle.house_rules.proofs.Invariant.Cells.{field_put, field_kept, find_coloured_lem}
 use Rattle.house_rules.proofs.Calls.EveryCall.{can_begin, can_arrive}
-use Rattle.house_rules.proofs.Statements.EveryHistory.{granted_holds, made_yes, made_holds}
+use Rattle.house_rules.proofs.Statements.EveryHistory.{history_keeps}
 use Rattle.house_rules.proofs.Invariant.WholeHouse.{Holds}
 use Rattle.house_rules.proofs.Calls.Outcome.{outcome_answer}
 use Rattle.house_rules.proofs.Calls.Open.{mapped}
@@ -145,17 +145,6 @@ module _ (m : Model) (ml : models.Lawful m) (rule : Rule) (c : Cut) (x : HouseSt
   granted_few close y z = f
   granted_few (file late_on_receipt text) y z = f
 
-module _ (m : Model) (ml : models.Lawful m) (rule : Rule) where
-  run_few : (calls : List Call) (c : Cut) (x : HouseState m.State) → Holds m rule c x → FewIn x.cells → FewIn (run m rule x calls).cells
-  run_few [] c x k f = f
-  run_few (call ∷ calls) c x k f = go (first_no (questions m rule x call)) refl (λ c' x' k' f'. run_few calls c' x' k' f')
-    where
-      go : (o : Option (ℕ × ℕ × ℕ)) → first_no (questions m rule x call) ≡ o → ((c' : Cut) (x' : HouseState m.State) → Holds m rule c' x' → FewIn x'.cells → FewIn (run m rule x' calls).cells) → FewIn (run m rule (next x (outcome o (after m rule x call) (reply m x call))) calls).cells
-      go None e ih =
-          let y = yes_parts (house_questions rule x.phase x.cells (m.rules.outstanding x.method) call) (method_questions m x call) (all_yes_lem (questions m rule x call) e) in
-          ih (cut_after c call) (after m rule x call) (granted_holds m ml rule c x call k e) (granted_few m ml rule c x k f call y.0 y.1)
-      go (Some code) e ih = ih c x k f
-
 made_few : (handed : Handed) → FewIn (made_cells handed)
 made_few handed =
     let z = sum_n_none (λ s. (station_at (made_cells handed) s).unreported) handed.n (λ s _. ap (λ u. u.unreported) (get_or-same handed.n fresh s)) in
@@ -163,10 +152,7 @@ made_few handed =
 
 history_few : (m : Model) → models.Lawful m → (rule : Rule) (x : HouseState m.State) → History m rule x → FewIn x.cells
 history_few m ml rule x history =
-    let g = made_yes m history.handed history.method history.first history.made in
-    let k = made_holds m rule history.handed history.method history.valid g.0 in
-    subst (λ (y : HouseState m.State). FewIn y.cells) history.leads
-    (run_few m ml rule history.calls no_cut history.first (subst (λ y. Holds m rule no_cut y) (sym g.1) k) (subst (λ (y : HouseState m.State). FewIn y.cells) (sym g.1) (made_few history.handed)))
+    history_keeps m ml rule (λ c g x. FewIn x.cells) (λ handed q. made_few handed) (λ c g x k f call y z. granted_few m ml rule c x k f call y z) x history
 
 -- what a receipt tells
 abbrev late_told : Answer → ℕ
