@@ -39,7 +39,7 @@ made_kept handed = record { opened = refl; gathered = fun_ext (λ s. ap (λ u. u
 
 history_kept : (m : Model) → models.Lawful m → (rule : Rule) (x : HouseState m.State) (history : History m rule x) → Kept (progress_of (granted_calls m rule x history)) x.phase x.cells
 history_kept m ml rule x history =
-    history_keeps m ml rule (λ c g x. Kept g x.phase x.cells) (λ handed q. made_kept handed) (λ c g x k kept call y z. granted_kept m rule c g x k.sound kept call y) x history
+    history_keeps m ml rule (λ c g x. Kept g x.phase x.cells) (λ c g x k kept call y z. granted_kept m rule c g x k.sound kept call y) (λ handed q. made_kept handed) x history
 
 -- the slips of a tray, without and with their colours
 all_plain : (P : Slip → Type 0) (xs : List ColouredSlip) → AllByRecursion (λ (x : ColouredSlip). P x.slip) xs → AllByRecursion P (slips_of xs)

@@ -20,18 +20,13 @@ use Rattle.methods.specs.Model as models
 use Rattle.house_rules.specs.Theorem.Progress.{Progress, no_progress, progress_after, progress_after_all, progress_of}
 
 module _ (m : Model) (ml : models.Lawful m) (rule : Rule) where
+  still_holds : (c : Cut) (x : HouseState m.State) → Holds m rule c x → (call : Call) → AllYes (house_questions rule x.phase x.cells (m.rules.outstanding x.method) call) → AllYes (method_questions m x call) → Holds m rule (cut_after c call) (after m rule x call)
+  still_holds c x k call y z = record { sound = granted_sound m ml rule c x k call y z; room = granted_room m rule x call y k.room; served = granted_served m ml rule c x k call y z }
+
   pub granted_holds : (c : Cut) (x : HouseState m.State) (call : Call) → Holds m rule c x → first_no (questions m rule x call) ≡ None → Holds m rule (cut_after c call) (after m rule x call)
   granted_holds c x call k q =
       let y = yes_parts (house_questions rule x.phase x.cells (m.rules.outstanding x.method) call) (method_questions m x call) (all_yes_lem (questions m rule x call) q) in
-      record { sound = granted_sound m ml rule c x k call y.0 y.1; room = granted_room m rule x call y.0 k.room; served = granted_served m ml rule c x k call y.0 y.1 }
-
-  pub run_holds : (calls : List Call) (c : Cut) (x : HouseState m.State) → Holds m rule c x → Holds m rule (cut_after_all c (granted_among m rule x calls)) (run m rule x calls)
-  run_holds [] c x k = k
-  run_holds (call ∷ calls) c x k = go (first_no (questions m rule x call)) refl (λ c' x' k'. run_holds calls c' x' k')
-    where
-      go : (o : Option (ℕ × ℕ × ℕ)) → first_no (questions m rule x call) ≡ o → ((c' : Cut) (x' : HouseState m.State) → Holds m rule c' x' → Holds m rule (cut_after_all c' (granted_among m rule x' calls)) (run m rule x' calls)) → Holds m rule (cut_after_all c (only_done (outcome o (after m rule x call) (reply m x call)) call (granted_among m rule (next x (outcome o (after m rule x call) (reply m x call))) calls))) (run m rule (next x (outcome o (after m rule x call) (reply m x call))) calls)
-      go None e ih = ih (cut_after c call) (after m rule x call) (granted_holds c x call k e)
-      go (Some code) e ih = ih c x k
+      still_holds c x k call y.0 y.1
 
 -- what make asks, and what it gives
 pub made_yes : (m : Model) (handed : Handed) (q : m.State) (x : HouseState m.State) → make m handed q ≡ done x nothing → AllYes (make_questions handed (m.rules.outstanding q)) × (x ≡ made_house handed q)
@@ -54,16 +49,9 @@ made_holds m rule handed q v y =
       served = record { valid = v; idle = λ _. o; counted = λ i. absurd (true≢false (sym i)) };
     }
 
-pub history_holds : (m : Model) → models.Lawful m → (rule : Rule) (x : HouseState m.State) (history : History m rule x) → Holds m rule (cut_of (granted_calls m rule x history)) x
-history_holds m ml rule x history =
-    let g = made_yes m history.handed history.method history.first history.made in
-    let k = made_holds m rule history.handed history.method history.valid g.0 in
-    subst (λ y. Holds m rule (cut_of (granted_calls m rule x history)) y) history.leads
-    (run_holds m ml rule history.calls no_cut history.first (subst (λ y. Holds m rule no_cut y) (sym g.1) k))
-
--- what holds of a made house, and what every granted call keeps, holds after every history
-module _ (m : Model) (ml : models.Lawful m) (rule : Rule) (P : Cut → Progress → HouseState m.State → Type 0) (made : (handed : Handed) (q : m.State) → P no_cut no_progress (made_house handed q)) (keeps : (c : Cut) (g : Progress) (x : HouseState m.State) → Holds m rule c x → P c g x → (call : Call) → AllYes (house_questions rule x.phase x.cells (m.rules.outstanding x.method) call) → AllYes (method_questions m x call) → P (cut_after c call) (progress_after c g call) (after m rule x call)) where
-  run_keeps : (calls : List Call) (c : Cut) (g : Progress) (x : HouseState m.State) → Holds m rule c x → P c g x → P (cut_after_all c (granted_among m rule x calls)) (progress_after_all c g (granted_among m rule x calls)) (run m rule x calls)
+-- what every granted call keeps, a run keeps
+module _ (m : Model) (ml : models.Lawful m) (rule : Rule) (P : Cut → Progress → HouseState m.State → Type 0) (keeps : (c : Cut) (g : Progress) (x : HouseState m.State) → Holds m rule c x → P c g x → (call : Call) → AllYes (house_questions rule x.phase x.cells (m.rules.outstanding x.method) call) → AllYes (method_questions m x call) → P (cut_after c call) (progress_after c g call) (after m rule x call)) where
+  pub run_keeps : (calls : List Call) (c : Cut) (g : Progress) (x : HouseState m.State) → Holds m rule c x → P c g x → P (cut_after_all c (granted_among m rule x calls)) (progress_after_all c g (granted_among m rule x calls)) (run m rule x calls)
   run_keeps [] c g x k w = w
   run_keeps (call ∷ calls) c g x k w = go (first_no (questions m rule x call)) refl (λ c' g' x' k' w'. run_keeps calls c' g' x' k' w')
     where
@@ -73,9 +61,17 @@ module _ (m : Model) (ml : models.Lawful m) (rule : Rule) (P : Cut → Progress 
           ih (cut_after c call) (progress_after c g call) (after m rule x call) (granted_holds m ml rule c x call k e) (keeps c g x k w call y.0 y.1)
       go (Some code) e ih = ih c g x k w
 
-  pub history_keeps : (x : HouseState m.State) (history : History m rule x) → P (cut_of (granted_calls m rule x history)) (progress_of (granted_calls m rule x history)) x
-  history_keeps x history =
+  -- and if it holds of a made house, it holds after every history
+  pub history_keeps : ((handed : Handed) (q : m.State) → P no_cut no_progress (made_house handed q)) → (x : HouseState m.State) (history : History m rule x) → P (cut_of (granted_calls m rule x history)) (progress_of (granted_calls m rule x history)) x
+  history_keeps made x history =
       let g = made_yes m history.handed history.method history.first history.made in
       let k = made_holds m rule history.handed history.method history.valid g.0 in
       subst (λ y. P (cut_of (granted_calls m rule x history)) (progress_of (granted_calls m rule x history)) y) history.leads
       (run_keeps history.calls no_cut no_progress history.first (subst (λ y. Holds m rule no_cut y) (sym g.1) k) (subst (λ y. P no_cut no_progress y) (sym g.1) (made history.handed history.method)))
+
+pub history_holds : (m : Model) → models.Lawful m → (rule : Rule) (x : HouseState m.State) (history : History m rule x) → Holds m rule (cut_of (granted_calls m rule x history)) x
+history_holds m ml rule x history =
+    let g = made_yes m history.handed history.method history.first history.made in
+    let k = made_holds m rule history.handed history.method history.valid g.0 in
+    subst (λ y. Holds m rule (cut_of (granted_calls m rule x history)) y) history.leads
+    (let h = subst (λ y. Holds m rule no_cut y) (sym g.1) k in run_keeps m ml rule (λ c _ y. Holds m rule c y) (λ c _ y w _ call a b. still_holds m ml rule c y w call a b) history.calls no_cut no_progress history.first h h)

@@ -119,7 +119,7 @@ module _ (m : Model) (rule : Rule) where
 
 pub history_ordered : (m : Model) → models.Lawful m → (rule : Rule) (x : HouseState m.State) (history : History m rule x) → (plain_run rule (blank x.cells.n) (cut_of (granted_calls m rule x history)).all).under_way ≡ slips_of x.cells.tray
 history_ordered m ml rule x history =
-    history_keeps m ml rule (λ c g x. Ordered rule c x.cells) (λ handed q. refl) (λ c g x k o call y z. granted_ordered m rule c x k.sound o call y) x history
+    history_keeps m ml rule (λ c g x. Ordered rule c x.cells) (λ c g x k o call y z. granted_ordered m rule c x k.sound o call y) (λ handed q. refl) x history
 
 pub house_is_its_plain_run : (m : Model) → models.Lawful m → HouseIsItsPlainRun m
 house_is_its_plain_run m ml rule x history =

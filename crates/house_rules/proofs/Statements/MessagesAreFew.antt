@@ -152,7 +152,7 @@ made_few handed =
 
 history_few : (m : Model) → models.Lawful m → (rule : Rule) (x : HouseState m.State) → History m rule x → FewIn x.cells
 history_few m ml rule x history =
-    history_keeps m ml rule (λ c g x. FewIn x.cells) (λ handed q. made_few handed) (λ c g x k f call y z. granted_few m ml rule c x k f call y z) x history
+    history_keeps m ml rule (λ c g x. FewIn x.cells) (λ c g x k f call y z. granted_few m ml rule c x k f call y z) (λ handed q. made_few handed) x history
 
 -- what a receipt tells
 abbrev late_told : Answer → ℕ
