@@ -20,7 +20,7 @@ use Rattle.house_rules.proofs.Invariant.Sound.{start_view, Common, Tree, During,
 use Rattle.house_rules.proofs.Invariant.Cut.{Split}
 use Rattle.house_rules.proofs.Lists.Totals.{sum_z, count}
 use Rattle.house_rules.proofs.Calls.Turn.{during_of, as_during}
-use Rattle.house_rules.proofs.Invariant.PlainHouse.{put_other}
+use Rattle.house_rules.proofs.Lists.Puts.{put_other}
 
 module _ (r : Rule) (c : Cut) (p : Phase) (h : Cells) (out : ℕ) (so : Sound r c p h out) (ph : p ≡ Counting) where
   k : During r c h out

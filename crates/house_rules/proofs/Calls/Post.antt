@@ -25,8 +25,9 @@ use Rattle.house_rules.proofs.Lists.Slips.{same_name_refl, same_name_true}
 use Rattle.house_rules.proofs.Invariant.Sound.{Between, Tree, During, Sound}
 use Rattle.house_rules.proofs.Invariant.Cut.{pending, split_later, split_sooner}
 use Rattle.house_rules.proofs.Lists.Totals.{sum_z, sum_z_put, count, count_push, count_agree}
-use Rattle.house_rules.proofs.Invariant.PlainHouse.{Acts, put_same, post'}
+use Rattle.house_rules.proofs.Invariant.PlainHouse.{Acts, post'}
 use Rattle.house_rules.specs.Calls.Event.{post}
+use Rattle.house_rules.proofs.Lists.Puts.{put_same}
 
 pub count_posted : (p : ℕ → ℕ → Bool) (v : Bool) (tray : List ColouredSlip) (x : ColouredSlip) (q : ℕ → ℕ → Bool) → ((a b : ℕ) → same_name x.slip.sender x.slip.number a b ≡ false → q a b ≡ p a b) → q x.slip.sender x.slip.number ≡ v → find x.slip.sender x.slip.number (slips_of tray) ≡ None → count q (tray ++ x ∷ []) ≡ count p tray + cond v 1 0
 count_posted p v tray x q agree here none_yet =

@@ -24,9 +24,9 @@ use Rattle.house_rules.proofs.Invariant.Cells.{field_put, find_coloured_lem}
 use Rattle.house_rules.proofs.Invariant.WholeHouse.{begun?, Served, Holds, served_on, root_kept}
 use Rattle.house_rules.proofs.Invariant.Phases.{is_ready_lem, is_closed_lem}
 use Rattle.house_rules.proofs.Calls.Open.{mapped}
-use Rattle.house_rules.proofs.Invariant.PlainHouse.{put_other}
 use Rattle.methods.specs.Model as models
 use Rattle.house_rules.specs.Calls.Event.{enter, post, take}
+use Rattle.house_rules.proofs.Lists.Puts.{put_other}
 
 -- a take leaves the root's mark
 arrives_root : (h : Cells) (x : ColouredSlip) → x.slip.receiver < length h.stations → (station_at (arrives h x) 0).gathered ≡ (station_at h 0).gathered

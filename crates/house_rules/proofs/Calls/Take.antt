@@ -17,12 +17,11 @@ use Rattle.house_rules.proofs.Calls.TakeArrives.{arrives_shape, arrives_common, 
 use Rattle.house_rules.proofs.Invariant.Colours.{shade}
 use Rattle.house_rules.proofs.Invariant.Cells.{cells_view, find_coloured_lem}
 use Rattle.house_rules.proofs.Invariant.Phases.{is_counting_lem}
-use Rattle.house_rules.proofs.Invariant.PlainSteps.{put_own}
 use Rattle.house_rules.proofs.Invariant.Sound.{Common, Between, During, ByPhase, Sound}
 use Rattle.house_rules.proofs.Calls.Turn.{during_of, as_during, turn_sound}
-use Rattle.house_rules.proofs.Invariant.PlainHouse.{put_same}
 use Rattle.house_rules.proofs.Lists.Slips.{first_all}
 use Rattle.house_rules.specs.Calls.Event.{Event, take}
+use Rattle.house_rules.proofs.Lists.Puts.{put_same, put_kept}
 
 -- Which of the ways a take goes
 
@@ -35,9 +34,6 @@ by_colours Red true true = (refl, refl)
 by_colours Red true false = (refl, refl)
 by_colours Red false true = (refl, refl)
 by_colours Red false false = (refl, refl)
-
-pub put_kept : {X : Type 0} (f : ℕ → X) (s : ℕ) (v : X) → f s ≡ v → put f s v ≡ f
-put_kept f s v e = ap (put f s) (sym e) ∙ put_own f s
 
 pub same_cut : (c : Cut) (q : ℕ) (t : Bool) (e : Event) → c.turned q ≡ t → with_event (with_turned c (put c.turned q t)) t e ≡ with_event c t e
 same_cut c q t e k = ap (λ f. with_event (with_turned c f) t e) (put_kept c.turned q t k)

@@ -12,9 +12,9 @@ use Rattle.house_rules.proofs.Invariant.Deficits.{balance_turn}
 use Rattle.house_rules.proofs.Invariant.Colours.{colouring_turn}
 use Rattle.house_rules.proofs.Invariant.Cells.{cells_view, field_put, field_kept, turn_view, turn_shape}
 use Rattle.house_rules.proofs.Invariant.Shared.{colouring_as, balance_as}
-use Rattle.house_rules.proofs.Invariant.PlainSteps.{get_or-put}
 use Rattle.house_rules.proofs.Invariant.Sound.{start_view, Common, Between, Tree, During, ByPhase, Sound}
 use Rattle.house_rules.proofs.Invariant.Cut.{Split, split_turn}
+use Rattle.house_rules.proofs.Lists.Puts.{get_or-put}
 
 pub during_of : (r : Rule) (c : Cut) (p : Phase) (h : Cells) (out : ℕ) → Sound r c p h out → p ≡ Counting → During r c h out
 during_of r c p h out so e = subst (λ q. ByPhase q (Between h.n (λ s. (station_at h s).colour) (λ s. (station_at h s).running) h.tray) (During r c h out)) e so.state

@@ -1,5 +1,5 @@
 -- The cells as the plain house sees them, and what each call does to that.
-use Rattle.std.proofs.Common.{◌≡◌, ℕ, ◌+◌, ◌<◌, ◌≤◌, Bool, true, false, cond, eqb, List, [], ◌∷◌, ◌++◌, length, get_or, set, ℤ, Some, None, Option, sym, refl, ap, ◌∙◌, arith}
+use Rattle.std.proofs.Common.{◌≡◌, ℕ, ◌+◌, ◌<◌, ◌≤◌, Bool, true, false, cond, List, [], ◌∷◌, ◌++◌, length, get_or, set, ℤ, Some, None, Option, sym, refl, ap, ◌∙◌, arith}
 use mathlib.Core.Path.{fun_ext}
 use Rattle.std.proofs.lemmas.List.{map-append, length-set}
 use Rattle.common.specs.Questions.{all_yes}
@@ -14,9 +14,10 @@ use Rattle.house_rules.specs.Calls.Post.{posted_slip, posted_cells}
 use Rattle.house_rules.specs.State.House.{Cells, fresh, station_at, sheet_at}
 use Rattle.house_rules.specs.Calls.Take.{took_station, late_station, arrives, arrives_late}
 use Rattle.house_rules.specs.Calls.Turn.{turned_station, turns}
-use Rattle.house_rules.proofs.Invariant.PlainSteps.{get_or-put, put_own, same_view, find_push, find_less}
+use Rattle.house_rules.proofs.Invariant.PlainSteps.{same_view, find_push, find_less}
 use Rattle.house_rules.proofs.Lists.Slips.{Distinct}
 use Rattle.house_rules.proofs.Invariant.PlainHouse.{View, Acts, Numbered, enter', post', take'}
+use Rattle.house_rules.proofs.Lists.Puts.{get_or-put, put_own, put_ap}
 
 -- the cells as the plain house sees them
 abbrev pub cells_view : Cells → View
@@ -29,13 +30,6 @@ pub record Shape (h : Cells) : Type 0 where
   pub sheets : length h.sheets ≡ h.n
   pub recorded : length h.recorded ≡ h.n
   pub stations : length h.stations ≡ h.n
-
-pub put_ap : {X Y : Type 0} (g : X → Y) (f : ℕ → X) (s : ℕ) (v : X) (t : ℕ) → g (put f s v t) ≡ put (λ t. g (f t)) s (g v) t
-put_ap g f s v t = go (eqb t s)
-  where
-    go : (b : Bool) → g (cond b v (f t)) ≡ cond b (g v) (g (f t))
-    go true = refl
-    go false = refl
 
 -- a field of the stations, after one station has changed
 pub field_put : {Y : Type 0} (g : Station → Y) (l : List Station) (s : ℕ) (v : Station) → s < length l → (λ t. g (get_or (set l s v) t fresh)) ≡ put (λ t. g (get_or l t fresh)) s (g v)

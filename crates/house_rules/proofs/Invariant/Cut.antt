@@ -10,8 +10,9 @@ use Rattle.house_rules.specs.declared.slip.Slip.{Slip}
 use Rattle.house_rules.specs.Theorem.Cut.{put}
 use Rattle.house_rules.specs.State.Names.{same_name, find}
 use Rattle.house_rules.proofs.Lists.Slips.{same_name_true, or_else}
-use Rattle.house_rules.proofs.Invariant.PlainHouse.{View, FullEvent, event_of, actor, changed, placed, Acts, Acted, Numbered, put_same, put_other, Free, numbered_acted, acted_push, moves, enter', post', take'}
+use Rattle.house_rules.proofs.Invariant.PlainHouse.{View, FullEvent, event_of, actor, changed, placed, Acts, Acted, Numbered, Free, numbered_acted, acted_push, moves, enter', post', take'}
 use Rattle.house_rules.specs.Calls.Event.{Event}
+use Rattle.house_rules.proofs.Lists.Puts.{put_same, put_other}
 
 -- a slip that is posted after the cut is new
 abbrev pub Fresh : (ℕ → ℕ → Bool) → FullEvent → Type 0

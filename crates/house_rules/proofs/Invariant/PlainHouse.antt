@@ -1,7 +1,6 @@
 -- The plain house as functions, and events with all that they mean: those of different stations can change places.
 use Rattle.std.proofs.Common.{◌≡◌, ℕ, ◌+◌, ◌<◌, ◌≤◌, Bool, true, false, ◌≢◌, List, [], ◌∷◌, ◌++◌, ℤ, Some, None, Option, sym, refl, ap, ◌∙◌, subst, arith}
 use mathlib.Core.Path.{fun_ext}
-use Rattle.std.proofs.lemmas.Bool.{eq-eqb, ne_eqb}
 use Rattle.std.proofs.lemmas.Bool.Decides.{nat_tests}
 use Rattle.std.specs.List.{AllByRecursion}
 use Rattle.common.specs.Questions.{all_yes}
@@ -11,6 +10,7 @@ use Rattle.house_rules.specs.Theorem.Cut.{put, put_slip}
 use Rattle.house_rules.specs.State.Names.{same_name}
 use Rattle.house_rules.proofs.Lists.Slips.{same_name_true}
 use Rattle.house_rules.specs.Calls.Event.{Event, enter, post, take}
+use Rattle.house_rules.proofs.Lists.Puts.{put_same, put_other, put_swap}
 
 -- each station's sheet and posted number, and the slip under way of each name
 pub record View : Type 0 where
@@ -81,15 +81,6 @@ Acted n r v (d ∷ ds) w = (m : View) × Acts n r v d m × Acted n r m ds w
 -- every slip under way has a number that was given
 abbrev pub Numbered : View → Type 0
 Numbered v = (a b : ℕ) (x : Slip) → v.slips a b ≡ Some x → b ≤ v.posted a
-
-pub put_same : {X : Type 0} (f : ℕ → X) (s : ℕ) (v : X) → put f s v s ≡ v
-put_same f s v = rw (eq-eqb s s refl)
-
-pub put_other : {X : Type 0} (f : ℕ → X) (s t : ℕ) (v : X) → t ≢ s → put f s v t ≡ f t
-put_other f s t v h = rw (ne_eqb t s h)
-
-pub put_swap : {X : Type 0} (f : ℕ → X) (s t : ℕ) (v w : X) → s ≢ t → put (put f s v) t w ≡ put (put f t w) s v
-put_swap f s t v w h = fun_ext (λ x. grind (arith, nat_tests))
 
 pub put2_swap : {X : Type 0} (f : ℕ → ℕ → X) (a b c d : ℕ) (v w : X) → same_name a b c d ≡ false → put_slip (put_slip f a b v) c d w ≡ put_slip (put_slip f c d w) a b v
 put2_swap f a b c d v w h = fun_ext (λ x. fun_ext (λ y. grind (arith, nat_tests)))

@@ -1,16 +1,16 @@
 -- Events that act on the view of a plain house are steps of the plain house, and keep what it holds of each line.
 use Rattle.std.proofs.Common.{◌≡◌, ℕ, ◌+◌, ◌<◌, Bool, true, false, cond, eqb, List, [], ◌∷◌, ◌++◌, map, length, get_or, set, ℤ, ◌+ℤ◌, is_some, Some, None, Option, sym, refl, ap, ◌∙◌, subst, arith}
 use mathlib.Core.Path.{fun_ext}
-use Rattle.std.proofs.lemmas.List.{length-set, get_or-set_same, get_or-set_other}
+use Rattle.std.proofs.lemmas.List.{length-set}
 use Rattle.std.proofs.lemmas.Int.{ints}
-use Rattle.std.proofs.lemmas.Bool.{eqb-true, eqb-false, lt-ltb}
+use Rattle.std.proofs.lemmas.Bool.{lt-ltb}
 use Rattle.std.proofs.lemmas.Bool.Decides.{nat_tests}
 use Rattle.sections.specs.Rule.{Rule, figure_at, entered, debited, credited}
 use Rattle.house_rules.specs.declared.slip.Slip.{Slip}
 use Rattle.common.specs.Sums.{sum_of}
 use Rattle.sections.specs.Sums.{line_sum}
 use Rattle.house_rules.specs.Calls.CountText.{on_slip, on_slips}
-use Rattle.house_rules.specs.Theorem.Cut.{put, put_slip}
+use Rattle.house_rules.specs.Theorem.Cut.{put_slip}
 use Rattle.house_rules.specs.State.Names.{same_name, find, without}
 use Rattle.house_rules.specs.Theorem.PlainHouse.{PlainHouse, plain_step, or_stays, plain_run, RefusesNone}
 use Rattle.house_rules.specs.Theorem.Statements.{gain_of}
@@ -21,6 +21,7 @@ use Rattle.common.proofs.Sums.{sum_push}
 use Rattle.house_rules.proofs.Lists.Sums.{sum_set, sum_without}
 use Rattle.house_rules.proofs.Invariant.PlainHouse.{View, FullEvent, event_of, changed, Acts, Acted, Numbered, numbered_acts, enter', post', take'}
 use Rattle.house_rules.specs.Calls.Event.{Event}
+use Rattle.house_rules.proofs.Lists.Puts.{put_own, get_or-put}
 
 abbrev pub plain_view : PlainHouse → View
 plain_view p = record { sheet = λ s. get_or p.sheets s []; posted = λ s. get_or p.posted s 0; slips = λ a b. find a b p.under_way }
@@ -32,16 +33,6 @@ pub record Fine (n : ℕ) (p : PlainHouse) : Type 0 where
   pub distinct : Distinct p.under_way
   pub numbered : Numbered (plain_view p)
   pub wide : (s : ℕ) → s < n → length (get_or p.sheets s []) ≡ 32
-
-pub get_or-put : {X : Type 0} (l : List X) (i : ℕ) (a d : X) → i < length l → (λ t. get_or (set l i a) t d) ≡ put (λ t. get_or l t d) i a
-get_or-put {X} l i a d h = fun_ext (λ t. go t (eqb t i) refl)
-  where
-    go : (t : ℕ) (b : Bool) → eqb t i ≡ b → get_or (set l i a) t d ≡ put (λ s. get_or l s d) i a t
-    go t true e = rw e (let k = eqb-true t i e in rw k (get_or-set_same l i a d h))
-    go t false e = rw e (get_or-set_other l i t a d (eqb-false t i e))
-
-pub put_own : {X : Type 0} (f : ℕ → X) (s : ℕ) → put f s (f s) ≡ f
-put_own f s = fun_ext (λ t. grind (arith, nat_tests))
 
 pub same_view : (v w : View) → v.sheet ≡ w.sheet → v.posted ≡ w.posted → v.slips ≡ w.slips → v ≡ w
 same_view v w p q m = λ i. record { sheet = p i; posted = q i; slips = m i }

@@ -8,7 +8,7 @@ use Rattle.house_rules.specs.declared.slip.Slip.{Slip}
 use Rattle.house_rules.specs.Theorem.Cut.{put}
 use Rattle.house_rules.specs.State.Names.{same_name, named, find, without_coloured, slips_of}
 use Rattle.house_rules.proofs.Lists.Slips.{same_name_true}
-use Rattle.house_rules.proofs.Invariant.PlainHouse.{put_other}
+use Rattle.house_rules.proofs.Lists.Puts.{put_other}
 
 -- over stations 0 to n - 1
 abbrev pub sum_z : (ℕ → ℤ) → ℕ → ℤ

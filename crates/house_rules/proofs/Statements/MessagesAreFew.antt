@@ -30,9 +30,9 @@ use Rattle.house_rules.proofs.Calls.Outcome.{outcome_answer}
 use Rattle.house_rules.proofs.Calls.Open.{mapped}
 use Rattle.house_rules.proofs.Lists.Sums.{get_or-same}
 use Rattle.house_rules.proofs.Lists.Totals.{sum_n, sum_n_put, sum_n_none}
-use Rattle.house_rules.proofs.Invariant.PlainHouse.{put_other}
 use Rattle.methods.specs.Model as models
 use Rattle.house_rules.specs.Calls.Event.{enter, post, take}
+use Rattle.house_rules.proofs.Lists.Puts.{put_other}
 
 -- 1,000 for each late slip that is reported, and 1,000 once the root has gathered
 abbrev Few : (n : ℕ) → List Station → (late messages : ℕ) → Type 0

@@ -1,9 +1,9 @@
 -- No refusal in a history is the method's.
-use Rattle.std.proofs.Common.{ℕ, ◌<◌, Bool, true, false, cond, ltb, [], ◌∷◌, length, Some, None, Option, sym, ◌∙◌, arith}
+use Rattle.std.proofs.Common.{◌≡◌, ℕ, ◌<◌, List, refl, subst, Bool, true, false, cond, ltb, [], ◌∷◌, length, Some, None, Option, sym, ◌∙◌, arith}
 use Rattle.sections.specs.Codes.{section_code}
 use Rattle.sections.specs.Rule.{SectionQuestions, Rule}
 use Rattle.methods.specs.Model.{Model}
-use Rattle.common.specs.Questions.{ask, number, told_as, first_no}
+use Rattle.common.specs.Questions.{Question, Code, ask, number, told_as, first_no}
 use Rattle.house_rules.specs.declared.phase.Phase.{Phase}
 use Rattle.house_rules.specs.declared.slip.ColouredSlip.{ColouredSlip}
 use Rattle.house_rules.specs.Calls.Questions.{is_deficit}
@@ -14,12 +14,24 @@ use Rattle.house_rules.specs.State.House.{Cells, sheet_at}
 use Rattle.house_rules.specs.Theorem.Statements.{MethodRefusesNothing}
 use Rattle.house_rules.specs.Calls.Take.{is_late, running_after, take_questions, under_way}
 use Rattle.common.proofs.AllYes.{all_yes_lem, no_first}
-use Rattle.house_rules.proofs.Lists.Questions.{Low, low_first}
 use Rattle.house_rules.proofs.Statements.EveryHistory.{history_holds}
 use Rattle.house_rules.proofs.Calls.Outcome.{outcome_refused}
 use Rattle.house_rules.proofs.Calls.MethodQuestions.{method_yes, house_decides}
 use Rattle.methods.specs.Model as models
 use Rattle.house_rules.specs.Calls.Event.{enter, post, take}
+
+-- the numbers of all questions are below 23
+abbrev Low : List (Question Code) → Type 0
+Low [] = Unit {0}
+Low (q ∷ qs) = (q.told.0 < 23) × Low qs
+
+low_first : (qs : List (Question Code)) (code : Code) → Low qs → first_no qs ≡ Some code → code.0 < 23
+low_first [] code l e = let z : ◌≡◌ {A = ℕ} 0 1 = cc in absurd (omega arith)
+low_first (q ∷ qs) code l e = go q.yes? refl (low_first qs code l.1)
+  where
+    go : (b : Bool) → q.yes? ≡ b → (first_no qs ≡ Some code → code.0 < 23) → code.0 < 23
+    go true t ih = ih (cc)
+    go false t ih = let s : q.told ≡ code = cc in subst (λ (k : Code). k.0 < 23) s l.0
 
 low_section : (qs : SectionQuestions) → Low (told_as section_code qs)
 low_section [] = tt
