@@ -1,4 +1,4 @@
--- A granted enter keeps the invariant.
+-- enter: where it is granted it keeps the invariant.
 use Rattle.std.proofs.Common.{◌≡◌, ℕ, ◌<◌, Bool, true, false, ℤ, refl, ◌∙◌}
 use Rattle.std.proofs.lemmas.List.{length-set}
 use Rattle.common.specs.Questions.{all_yes}

@@ -1,4 +1,4 @@
--- Every granted call keeps the invariant.
+-- Every call: where it is granted it keeps the invariant of the cells.
 use Rattle.std.proofs.Common.{◌≡◌, ℕ, ◌+◌, ◌*◌, Bool, true, false, cond, eqb, List, pos, nat_abs, Some, None, Option, sym, refl, ap, ◌∙◌, subst}
 use Rattle.std.proofs.lemmas.Bool.{true≢false, eqb-true, ltb-true, and_parts, not-true}
 use Rattle.sections.specs.Codes.{section_code}

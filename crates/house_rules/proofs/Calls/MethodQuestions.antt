@@ -1,4 +1,4 @@
--- The counting method refuses nothing: where the house's own questions are all answered yes, so are the method's.
+-- Every call: where the house's own questions are all answered yes, so are the method's; for MethodRefusesNothing.
 use Rattle.std.proofs.Common.{◌≡◌, ℕ, suc, ◌+◌, ◌<◌, ◌≤◌, Bool, true, false, cond, not, ◌&&◌, eqb, leb, List, [], ◌∷◌, length, ℤ, pos, negsuc, nat_abs, sym, refl, ap, ◌∙◌, arith}
 use lib.Signed.{le_z}
 use Rattle.std.proofs.lemmas.Bool.{true≢false, eqb-true, ltb-true, lt-ltb, leb-true, and_parts, not-true, eq-eqb, le-leb}

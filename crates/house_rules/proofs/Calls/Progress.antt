@@ -1,4 +1,4 @@
--- How far a count is by the granted calls, against the marks in the cells.
+-- Every call: where it is granted, the progress read off the calls stays what the cells are marked with; for CloseIsExact.
 use Rattle.std.proofs.Common.{◌≡◌, ℕ, ◌+◌, ◌-◌, ◌<◌, Bool, true, false, cond, eqb, ltb, map, length, get_or, set, Some, None, Option, sym, refl, ap, ◌∙◌, subst, arith}
 use mathlib.Core.Path.{fun_ext}
 use Rattle.std.proofs.lemmas.List.{length-set, length-map}

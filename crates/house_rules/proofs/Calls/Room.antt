@@ -1,4 +1,4 @@
--- Every granted call keeps tray and late list within their cells.
+-- Every call: where it is granted it keeps tray and late list within their cells.
 use Rattle.std.proofs.Common.{◌≡◌, ℕ, ◌<◌, Bool, true, false, cond, eqb, length, Some, None, Option, refl, arith}
 use Rattle.std.proofs.lemmas.List.{length_push}
 use Rattle.std.proofs.lemmas.Bool.{ltb-true}

@@ -1,4 +1,4 @@
--- A granted take keeps the invariant.
+-- take: where it is granted it keeps the invariant; the receiver turns first, or the slip is late, or neither.
 use Rattle.std.proofs.Common.{◌≡◌, ℕ, ◌<◌, Bool, true, false, not, ◌&&◌, ◌||◌, [], ◌∷◌, ◌++◌, Some, sym, refl, ap, ◌∙◌, subst, arith}
 use Rattle.common.specs.Questions.{all_yes}
 use Rattle.sections.specs.Rule.{Rule}

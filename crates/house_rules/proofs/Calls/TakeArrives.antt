@@ -1,4 +1,4 @@
--- A slip that arrives, late or not, keeps the invariant.
+-- take: a slip that arrives, late or not, keeps the invariant where its receiver need not turn.
 use Rattle.std.proofs.Common.{◌≡◌, ℕ, ◌+◌, ◌<◌, ◌≤◌, Bool, true, false, cond, not, [], ◌∷◌, ◌++◌, length, pos, ◌-ℤ◌, Some, None, sym, refl, ap, ◌∙◌, subst, arith}
 use Rattle.std.proofs.lemmas.List.{length-set, length_push}
 use Rattle.std.proofs.lemmas.Int.{ints}

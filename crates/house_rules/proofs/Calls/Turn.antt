@@ -1,4 +1,4 @@
--- A granted turn keeps the invariant.
+-- turn: where it is granted it keeps the invariant.
 use Rattle.std.proofs.Common.{◌≡◌, ℕ, ◌<◌, true, false, [], length, get_or, sym, refl, ap, subst, arith}
 use Rattle.sections.specs.Rule.{Rule}
 use Rattle.house_rules.specs.declared.phase.Phase.{Phase}

@@ -1,4 +1,4 @@
--- Events that act on the view of a plain house are steps of the plain house, and keep what it holds of each line.
+-- Events that act on the view of a plain house are its steps, and keep what it holds of each line; for the plain runs.
 use Rattle.std.proofs.Common.{◌≡◌, ℕ, ◌+◌, ◌<◌, Bool, true, false, cond, eqb, List, [], ◌∷◌, ◌++◌, map, length, get_or, set, ℤ, ◌+ℤ◌, is_some, Some, None, Option, sym, refl, ap, ◌∙◌, subst, arith}
 use mathlib.Core.Path.{fun_ext}
 use Rattle.std.proofs.lemmas.List.{length-set}

@@ -1,4 +1,4 @@
--- What the proofs of several calls and statements share: parts of the invariant under equal arguments and after one more event.
+-- What proofs of several calls share: parts of the invariant under equal arguments and after one more event.
 use Rattle.std.proofs.Common.{◌≡◌, ℕ, ◌<◌, Bool, true, false, List, [], ◌∷◌, ◌++◌, ℤ, Some, refl, subst, arith, zero, suc, length, get_or, replicate}
 use Rattle.sections.specs.Rule.{Rule, blank_sheet}
 use Rattle.house_rules.specs.declared.colour.Colour.{Colour}

@@ -1,4 +1,4 @@
--- Functions with one value changed, as the cut keeps them; every call's proof reads lists of stations and sheets in this form.
+-- Functions with one value changed; every call's proof reads the lists of stations and sheets in this form.
 use Rattle.std.proofs.Common.{◌≡◌, ℕ, ◌<◌, Bool, true, false, cond, eqb, ◌≢◌, List, length, get_or, set, sym, refl, ap, ◌∙◌, arith}
 use mathlib.Core.Path.{fun_ext}
 use Rattle.std.proofs.lemmas.List.{get_or-set_same, get_or-set_other}

@@ -1,4 +1,4 @@
--- Close is granted exactly where the count is complete.
+-- CloseIsExact: close is granted exactly where the count is complete.
 use Rattle.std.proofs.Common.{◌≡◌, ℕ, suc, true, not, List, [], ◌∷◌, Some, None, Option, sym, refl, ap, ◌∙◌, subst, arith}
 use mathlib.Core.Path.{fun_ext}
 use Rattle.std.proofs.ByRecursion.{All-weaker}

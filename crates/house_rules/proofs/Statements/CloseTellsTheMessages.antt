@@ -1,4 +1,4 @@
--- The messages that a house keeps are those that its calls and their answers tell.
+-- CloseTellsTheMessages: the messages that a house keeps are those that its calls and their answers tell.
 use Rattle.std.proofs.Common.{◌≡◌, ℕ, ◌+◌, Bool, true, false, cond, eqb, List, [], ◌∷◌, length, nat_abs, Some, None, Option, sym, refl, ap, ◌∙◌}
 use Rattle.sections.specs.Rule.{Rule}
 use Rattle.methods.specs.Model.{Model}

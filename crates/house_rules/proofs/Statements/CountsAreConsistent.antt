@@ -1,4 +1,4 @@
--- Every count that is closed is consistent.
+-- CountsAreConsistent: every count that is closed is consistent.
 use Rattle.std.proofs.Common.{◌≡◌, None, sym, ◌∙◌, subst}
 use Rattle.std.proofs.lemmas.Bool.{eqb-true}
 use Rattle.sections.specs.Rule.{Rule}

@@ -1,4 +1,4 @@
--- Between a close and the next granted open, record, late list and text stay as they are.
+-- CountsStay: between a close and the next granted open, record, late list and text stay as they are.
 use Rattle.std.proofs.Common.{◌≡◌, ℕ, false, List, [], ◌∷◌, Some, None, Option, refl, ap, ◌∙◌}
 use Rattle.std.proofs.lemmas.Bool.{both_ways}
 use Rattle.std.specs.List.{AllByRecursion}

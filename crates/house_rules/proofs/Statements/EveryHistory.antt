@@ -1,4 +1,4 @@
--- Every history keeps the invariant, and what every granted call keeps beside it; all statements of histories rest on this.
+-- Every history keeps the invariant, and what every granted call keeps beside it; the statements of histories rest on this.
 use Rattle.std.proofs.Common.{◌≡◌, ℕ, ◌&&◌, leb, List, [], ◌∷◌, Some, None, Option, sym, refl, subst, arith}
 use Rattle.std.proofs.lemmas.Bool.{true≢false, eqb-true, leb-true, and_parts}
 use Rattle.sections.specs.Rule.{Rule}

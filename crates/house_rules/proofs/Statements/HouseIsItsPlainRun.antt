@@ -1,4 +1,4 @@
--- The plain run of all granted events holds the sheets of the house and, in their order, the slips of its tray.
+-- HouseIsItsPlainRun: the plain run of all granted events holds the house's sheets and, in order, the slips of its tray.
 use Rattle.std.proofs.Common.{◌≡◌, ℕ, Bool, true, false, cond, ◌&&◌, eqb, ltb, List, [], ◌∷◌, ◌++◌, length, get_or, set, Some, None, Option, sym, refl, ap, ◌∙◌, subst}
 use Rattle.std.proofs.lemmas.List.{ext_get_or}
 use Rattle.std.proofs.lemmas.Bool.{true≢false, and_parts}

@@ -1,4 +1,4 @@
--- No refusal in a history is the method's.
+-- MethodRefusesNothing: no refusal in a history is the method's.
 use Rattle.std.proofs.Common.{◌≡◌, ℕ, ◌<◌, List, refl, subst, Bool, true, false, cond, ltb, [], ◌∷◌, length, Some, None, Option, sym, ◌∙◌, arith}
 use Rattle.sections.specs.Codes.{section_code}
 use Rattle.sections.specs.Rule.{SectionQuestions, Rule}

@@ -1,4 +1,4 @@
--- Two houses that are made alike but for the method give the same responses and stay alike, messages aside.
+-- MethodsAgree: two houses that are made alike but for the method give the same responses and stay alike, messages aside.
 use Rattle.std.proofs.Common.{◌≡◌, ℕ, Bool, true, false, cond, eqb, List, [], ◌∷◌, map, length, nat_abs, Some, None, Option, sym, refl, ap, ◌∙◌, subst, arith}
 use Rattle.std.proofs.lemmas.Bool.{eqb-true}
 use Rattle.sections.specs.Rule.{Rule}

@@ -1,4 +1,4 @@
--- In every count that is closed, each line's score is what the entries before the turns gave it.
+-- ScoresAreGains: in every count that is closed, each line's score is what the entries before the turns gave it.
 use Rattle.std.proofs.Common.{◌≡◌, subst}
 use Rattle.std.proofs.lemmas.Bool.{eqb-true}
 use Rattle.methods.specs.Model.{Model}

@@ -114,7 +114,8 @@ pub record Alike {P Q : Type 0} (x : HouseState P) (y : HouseState Q) : Type 0 w
   pub tray : x.cells.tray ≡ y.cells.tray
   pub late : x.cells.late ≡ y.cells.late
 
--- houses made alike but for the method and given the same calls give the same responses (the texts are among them) and stay alike
+-- houses made alike but for the method and given the same calls give the same responses, the texts among them, and stay
+-- alike
 abbrev pub MethodsAgree : Model → Model → Type 0
 MethodsAgree m k =
     (rule : Rule) (handed : Handed) (p : m.State) (q : k.State) → m.Valid p → k.Valid q →
