@@ -19,21 +19,21 @@ all_new base new (x ∷ xs) h k =
     let e : new x.slip.sender x.slip.number ≡ true = not-false (new x.slip.sender x.slip.number) k.0 in
     (h.0 ∙ ap (shade base) e, all_new base new xs h.1 k.1)
 
-module _ (r : Rule) (c : Cut) (p : Phase) (h : Cells) (out : ℕ) (so : Sound r c p h out) (k : During r c h out) (root : (station_at h 0).gathered ≡ true) where
-  pub owed : out ≡ (count (λ a b. not (c.new a b)) h.tray + sum_n (λ s. (station_at h s).unreported) h.n)
+module _ (r : Rule) (c : Cut) (p : Phase) (cells : Cells) (out : ℕ) (so : Sound r c p cells out) (k : During r c cells out) (root : (station_at cells 0).gathered ≡ true) where
+  pub owed : out ≡ (count (λ a b. not (c.new a b)) cells.tray + sum_n (λ s. (station_at cells s).unreported) cells.n)
   owed = let a = k.balance.asked in rw root at a
 
-  pub every : (s : ℕ) → s < h.n → c.turned s ≡ true
-  every = all_turned h.n (λ s. (station_at h s).gathered) c.turned k.tree root
+  pub every : (s : ℕ) → s < cells.n → c.turned s ≡ true
+  every = all_turned cells.n (λ s. (station_at cells s).gathered) c.turned k.tree root
 
   module _ (none_out : out ≡ 0) where
-    pub no_olds : count (λ a b. not (c.new a b)) h.tray ≡ 0
+    pub no_olds : count (λ a b. not (c.new a b)) cells.tray ≡ 0
     no_olds = let o = owed in omega arith
 
-    pub none_old : AllByRecursion (λ (x : ColouredSlip). not (c.new x.slip.sender x.slip.number) ≡ false) h.tray
-    none_old = count_zero (λ a b. not (c.new a b)) h.tray no_olds
+    pub none_old : AllByRecursion (λ (x : ColouredSlip). not (c.new x.slip.sender x.slip.number) ≡ false) cells.tray
+    none_old = count_zero (λ a b. not (c.new a b)) cells.tray no_olds
 
-    pub close_sound : Sound r c Closed h out
+    pub close_sound : Sound r c Closed cells out
     close_sound =
         record {
           shape = so.shape;
@@ -42,10 +42,10 @@ module _ (r : Rule) (c : Cut) (p : Phase) (h : Cells) (out : ℕ) (so : Sound r 
               record {
                 base = shade k.base true;
                 coloured = λ s l. k.colouring.coloured s l ∙ ap (shade k.base) (every s l);
-                slips = all_new k.base c.new h.tray k.colouring.slips none_old;
+                slips = all_new k.base c.new cells.tray k.colouring.slips none_old;
                 running =
-                    let g : sum_z (λ s. cond (c.turned s) (station_at h s).running (pos 0)) h.n ≡ sum_z (λ s. (station_at h s).running) h.n = sum_z_same _ _ h.n (λ s l. rw (every s l)) in
-                    let b = count_both c.new h.tray in
+                    let g : sum_z (λ s. cond (c.turned s) (station_at cells s).running (pos 0)) cells.n ≡ sum_z (λ s. (station_at cells s).running) cells.n = sum_z_same _ _ cells.n (λ s l. rw (every s l)) in
+                    let b = count_both c.new cells.tray in
                     let o = no_olds in
                     sym g ∙ k.balance.running ∙ ap pos (omega arith);
               };

@@ -39,13 +39,13 @@ own_name a b tray x s =
     let n = find_named a b (slips_of tray) x.slip (find_coloured_lem a b tray x s) in
     subst (λ k. find_coloured k x.slip.number tray ≡ Some x) (sym n.0) (subst (λ k. find_coloured a k tray ≡ Some x) (sym n.1) s)
 
-module _ (rule : Rule) (c : Cut) (p : Phase) (h : Cells) (out : ℕ) (so : Sound rule c p h out) where
-  taken_sound : (a b : ℕ) (o : Option ColouredSlip) → under_way h a b ≡ o → AllYes (take_questions rule p h o) → Sound rule (cut_after c (event (take a b))) p (taken_cells p h o) out
+module _ (rule : Rule) (c : Cut) (p : Phase) (cells : Cells) (out : ℕ) (so : Sound rule c p cells out) where
+  taken_sound : (a b : ℕ) (o : Option ColouredSlip) → under_way cells a b ≡ o → AllYes (take_questions rule p cells o) → Sound rule (cut_after c (event (take a b))) p (taken_cells p cells o) out
   taken_sound a b None s y = absurd (true≢false (sym y.0))
   taken_sound a b (Some x) s y =
-      let n = find_named a b (slips_of h.tray) x.slip (find_coloured_lem a b h.tray x s) in
-      let t = take_sound rule c p h out so x (own_name a b h.tray x s) (told_tested section_code (rule.credit (sheet_at h x.slip.receiver) x.slip.line x.slip.amount) y.1) in
-      subst (λ k. Sound rule (cut_after c (event (take k b))) p (arrived p h x) out) n.0 (subst (λ k. Sound rule (cut_after c (event (take x.slip.sender k))) p (arrived p h x) out) n.1 t)
+      let n = find_named a b (slips_of cells.tray) x.slip (find_coloured_lem a b cells.tray x s) in
+      let t = take_sound rule c p cells out so x (own_name a b cells.tray x s) (told_tested section_code (rule.credit (sheet_at cells x.slip.receiver) x.slip.line x.slip.amount) y.1) in
+      subst (λ k. Sound rule (cut_after c (event (take k b))) p (arrived p cells x) out) n.0 (subst (λ k. Sound rule (cut_after c (event (take x.slip.sender k))) p (arrived p cells x) out) n.1 t)
 
 -- what the method owes after a begin and after an arrival
 module _ (m : Model) (ml : models.Lawful m) (rule : Rule) (c : Cut) (x : HouseState m.State) (k : Holds m rule c x) where
@@ -80,8 +80,8 @@ module _ (m : Model) (ml : models.Lawful m) (rule : Rule) (c : Cut) (x : HouseSt
   abbrev p : Phase
   p = x.phase
 
-  abbrev h : Cells
-  h = x.cells
+  abbrev cells : Cells
+  cells = x.cells
 
   abbrev out : ℕ
   out = m.rules.outstanding x.method
@@ -100,21 +100,21 @@ module _ (m : Model) (ml : models.Lawful m) (rule : Rule) (c : Cut) (x : HouseSt
       go false e = gathers x.cells.messages _ (λ f. absurd (true≢false (sym f ∙ e))) (λ _. refl)
 
   pub granted_sound : (call : Call) → AllYes (house_questions rule x.phase x.cells (m.rules.outstanding x.method) call) → AllYes (method_questions m x call) → Sound rule (cut_after c call) (after m rule x call).phase (after m rule x call).cells (m.rules.outstanding (after m rule x call).method)
-  granted_sound (event (enter s a b r)) y z = enter_sound rule c p h out k.sound s a b r (ltb-true s h.n y.0) (told_tested section_code (rule.entry (sheet_at h s) a b r) y.1.1)
+  granted_sound (event (enter s a b r)) y z = enter_sound rule c p cells out k.sound s a b r (ltb-true s cells.n y.0) (told_tested section_code (rule.entry (sheet_at cells s) a b r) y.1.1)
   granted_sound (event (post s to line amount)) y z =
       let q = and_parts _ _ y.0 in
-      post_sound rule c p h out k.sound s to line amount (ltb-true s h.n q.0) (ltb-true to h.n q.1) (told_tested section_code (rule.debit (sheet_at h s) line amount) y.1.1.1.1.1)
-  granted_sound (event (take a b)) y z = taken_sound rule c p h out k.sound a b (under_way h a b) refl y
-  granted_sound (open' s) y z = open_sound rule c p h out k.sound s (ltb-true s h.n y.0) (is_ready_lem p y.1.0)
+      post_sound rule c p cells out k.sound s to line amount (ltb-true s cells.n q.0) (ltb-true to cells.n q.1) (told_tested section_code (rule.debit (sheet_at cells s) line amount) y.1.1.1.1.1)
+  granted_sound (event (take a b)) y z = taken_sound rule c p cells out k.sound a b (under_way cells a b) refl y
+  granted_sound (open' s) y z = open_sound rule c p cells out k.sound s (ltb-true s cells.n y.0) (is_ready_lem p y.1.0)
   granted_sound (turn s) y z =
       let ph = is_counting_lem p y.1.0 in
-      let lt = ltb-true s h.n y.0 in
-      turn_sound rule c p h out k.sound ph s lt (sym ((during_of rule c p h out k.sound ph).colouring.marked s lt) ∙ not-true _ y.1.1.0)
+      let lt = ltb-true s cells.n y.0 in
+      turn_sound rule c p cells out k.sound ph s lt (sym ((during_of rule c p cells out k.sound ph).colouring.marked s lt) ∙ not-true _ y.1.1.0)
   granted_sound (gather s) y z = gather_kept s y z
-  granted_sound (report s) y z = report_sound rule c p h out k.sound (is_counting_lem p y.1.0) s _ _ (arrived_left s z).0 (ltb-true s h.n y.0) y.1.1.0 (ltb-true 0 (station_at h s).unreported y.1.1.1.0)
+  granted_sound (report s) y z = report_sound rule c p cells out k.sound (is_counting_lem p y.1.0) s _ _ (arrived_left s z).0 (ltb-true s cells.n y.0) y.1.1.0 (ltb-true 0 (station_at cells s).unreported y.1.1.1.0)
   granted_sound close y z =
       let ph = is_counting_lem p y.0 in
-      close_sound rule c p h out k.sound (during_of rule c p h out k.sound ph) y.1.0 (eqb-true out 0 y.1.1.0)
+      close_sound rule c p cells out k.sound (during_of rule c p cells out k.sound ph) y.1.0 (eqb-true out 0 y.1.1.0)
   granted_sound (file late_on_receipt text) y z =
       let q = and_parts _ _ y.0 in
-      file_sound rule c p h out k.sound (is_closed_lem p q.0)
+      file_sound rule c p cells out k.sound (is_closed_lem p q.0)

@@ -39,21 +39,21 @@ pub or_else_none : {X : Type 0} (o : Option X) → or_else o None ≡ o
 or_else_none None = refl
 or_else_none (Some x) = refl
 
-module _ (r : Rule) (c : Cut) (p : Phase) (h : Cells) (out : ℕ) (so : Sound r c p h out) where
-  pub clear_sound : Between h.n (λ s. (station_at h s).colour) (λ s. (station_at h s).running) h.tray → Sound r (clear_cut c) Counting (cleared h) out
+module _ (r : Rule) (c : Cut) (p : Phase) (cells : Cells) (out : ℕ) (so : Sound r c p cells out) where
+  pub clear_sound : Between cells.n (λ s. (station_at cells s).colour) (λ s. (station_at cells s).running) cells.tray → Sound r (clear_cut c) Counting (cleared cells) out
   clear_sound k =
       record {
-        shape = record { some' = so.shape.some'; few = so.shape.few; sheets = so.shape.sheets; recorded = so.shape.recorded; stations = length-map h.stations cleared_station ∙ so.shape.stations };
+        shape = record { some' = so.shape.some'; few = so.shape.few; sheets = so.shape.sheets; recorded = so.shape.recorded; stations = length-map cells.stations cleared_station ∙ so.shape.stations };
         common =
-            subst (λ v. Common h.n r c.all c.posted c.receiver v (slips_of h.tray) []) (sym view)
-            (record { naming = naming_none h.n _ _ _ so.common.naming; sent_is = so.common.sent_is; goes_is = so.common.goes_is; ds = so.common.ds; is_all = so.common.is_all; run = so.common.run });
+            subst (λ v. Common cells.n r c.all c.posted c.receiver v (slips_of cells.tray) []) (sym view)
+            (record { naming = naming_none cells.n _ _ _ so.common.naming; sent_is = so.common.sent_is; goes_is = so.common.goes_is; ds = so.common.ds; is_all = so.common.is_all; run = so.common.run });
         state =
             record {
               base = k.base;
-              colouring = record { marked = λ s l. ap (λ t. t.turned) (mapped h.stations s); coloured = λ s l. ap (λ t. t.colour) (mapped h.stations s) ∙ k.coloured s l; slips = k.slips; old_late = λ a b x e. refl };
+              colouring = record { marked = λ s l. ap (λ t. t.turned) (mapped cells.stations s); coloured = λ s l. ap (λ t. t.colour) (mapped cells.stations s) ∙ k.coloured s l; slips = k.slips; old_late = λ a b x e. refl };
               split =
                   record {
-                    x = cells_view h;
+                    x = cells_view cells;
                     dpre = so.common.ds;
                     dpost = [];
                     is_pre = so.common.is_all;
@@ -63,25 +63,25 @@ module _ (r : Rule) (c : Cut) (p : Phase) (h : Cells) (out : ℕ) (so : Sound r 
                     who = tt;
                     made = tt;
                     sheets = λ s l. refl;
-                    slips = λ a b. sym (or_else_none (find a b (slips_of h.tray)));
+                    slips = λ a b. sym (or_else_none (find a b (slips_of cells.tray)));
                   };
               balance =
                   record {
-                    frozen = ap (λ f. sum_z f h.n) (fun_ext (λ s. ap (λ t. t.running) (mapped h.stations s))) ∙ k.running ∙ ap pos (omega arith);
-                    running = sum_z_none (λ s. pos 0) h.n (λ j l. refl) ∙ ap pos (sym (count_none (λ a b. false) h.tray (falses h.tray)));
-                    asked = rw (ap (λ t. t.gathered) (mapped h.stations 0)) (sum_n_none _ h.n (λ j l. ap (λ t. t.unreported) (mapped h.stations j)));
+                    frozen = ap (λ f. sum_z f cells.n) (fun_ext (λ s. ap (λ t. t.running) (mapped cells.stations s))) ∙ k.running ∙ ap pos (omega arith);
+                    running = sum_z_none (λ s. pos 0) cells.n (λ j l. refl) ∙ ap pos (sym (count_none (λ a b. false) cells.tray (falses cells.tray)));
+                    asked = rw (ap (λ t. t.gathered) (mapped cells.stations 0)) (sum_n_none _ cells.n (λ j l. ap (λ t. t.unreported) (mapped cells.stations j)));
                   };
-              tree = λ s l g. let e = ap (λ t. t.gathered) (mapped h.stations s) in let z : ◌≡◌ {A = ℕ} 0 1 = cc in absurd (omega arith);
+              tree = λ s l g. let e = ap (λ t. t.gathered) (mapped cells.stations s) in let z : ◌≡◌ {A = ℕ} 0 1 = cc in absurd (omega arith);
               given = λ a b e. let z : ◌≡◌ {A = ℕ} 0 1 = cc in absurd (omega arith);
             };
       }
     where
-      view : cells_view (cleared h) ≡ cells_view h
-      view = same_view (cells_view (cleared h)) (cells_view h) refl (fun_ext (λ s. ap (λ t. t.posted) (mapped h.stations s))) refl
+      view : cells_view (cleared cells) ≡ cells_view cells
+      view = same_view (cells_view (cleared cells)) (cells_view cells) refl (fun_ext (λ s. ap (λ t. t.posted) (mapped cells.stations s))) refl
 
       falses : (xs : List ColouredSlip) → AllByRecursion (λ (x : ColouredSlip). false ≡ false) xs
       falses [] = tt
       falses (x ∷ xs) = (refl, falses xs)
 
-  pub open_sound : (s : ℕ) → s < h.n → p ≡ Ready → Sound r (with_open c s) Counting (opened_cells h s) out
-  open_sound s lt ph = turn_sound r (clear_cut c) Counting (cleared h) out (clear_sound (subst (λ q. ByPhase q (Between h.n (λ s. (station_at h s).colour) (λ s. (station_at h s).running) h.tray) (During r c h out)) ph so.state)) refl s lt refl
+  pub open_sound : (s : ℕ) → s < cells.n → p ≡ Ready → Sound r (with_open c s) Counting (opened_cells cells s) out
+  open_sound s lt ph = turn_sound r (clear_cut c) Counting (cleared cells) out (clear_sound (subst (λ q. ByPhase q (Between cells.n (λ s. (station_at cells s).colour) (λ s. (station_at cells s).running) cells.tray) (During r c cells out)) ph so.state)) refl s lt refl

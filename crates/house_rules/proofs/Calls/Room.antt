@@ -17,22 +17,22 @@ use Rattle.common.proofs.AllYes.{AllYes}
 use Rattle.house_rules.proofs.Invariant.WholeHouse.{Room, length-less}
 use Rattle.house_rules.specs.Calls.Event.{enter, post, take}
 
-room_arrives : (h : Cells) (x : ColouredSlip) → Room h → Room (arrives h x)
-room_arrives h x k = record { tray_cells_lem = k.tray_cells_lem; late_cells_lem = k.late_cells_lem; tray = let a = length-less x.slip.sender x.slip.number h.tray in let b = k.tray in omega arith; late = k.late }
+room_arrives : (cells : Cells) (x : ColouredSlip) → Room cells → Room (arrives cells x)
+room_arrives cells x k = record { tray_cells_lem = k.tray_cells_lem; late_cells_lem = k.late_cells_lem; tray = let a = length-less x.slip.sender x.slip.number cells.tray in let b = k.tray in omega arith; late = k.late }
 
-room_turns : (h : Cells) (s : ℕ) → Room h → Room (turns h s)
-room_turns h s k = record { tray_cells_lem = k.tray_cells_lem; late_cells_lem = k.late_cells_lem; tray = k.tray; late = k.late }
+room_turns : (cells : Cells) (s : ℕ) → Room cells → Room (turns cells s)
+room_turns cells s k = record { tray_cells_lem = k.tray_cells_lem; late_cells_lem = k.late_cells_lem; tray = k.tray; late = k.late }
 
-room_taken : (rule : Rule) (p : Phase) (h : Cells) (o : Option ColouredSlip) → AllYes (take_questions rule p h o) → Room h → Room (taken_cells p h o)
-room_taken rule p h None y k = k
-room_taken rule p h (Some x) y k = go (is_late p h x) refl (turns_receiver p h x)
+room_taken : (rule : Rule) (p : Phase) (cells : Cells) (o : Option ColouredSlip) → AllYes (take_questions rule p cells o) → Room cells → Room (taken_cells p cells o)
+room_taken rule p cells None y k = k
+room_taken rule p cells (Some x) y k = go (is_late p cells x) refl (turns_receiver p cells x)
   where
-    go : (b : Bool) → is_late p h x ≡ b → (t : Bool) → Room (cond b (arrives_late h x) (arrives (cond t (turns h x.slip.receiver) h) x))
+    go : (b : Bool) → is_late p cells x ≡ b → (t : Bool) → Room (cond b (arrives_late cells x) (arrives (cond t (turns cells x.slip.receiver) cells) x))
     go true e t =
-        let free : length h.late < h.late_cells = ltb-true (length h.late) h.late_cells (let z = y.0 in rw e at z) in
-        record { tray_cells_lem = k.tray_cells_lem; late_cells_lem = k.late_cells_lem; tray = let a = length-less x.slip.sender x.slip.number h.tray in let b = k.tray in omega arith; late = let a = length_push h.late x in omega arith }
-    go false e true = room_arrives (turns h x.slip.receiver) x (room_turns h x.slip.receiver k)
-    go false e false = room_arrives h x k
+        let free : length cells.late < cells.late_cells = ltb-true (length cells.late) cells.late_cells (let z = y.0 in rw e at z) in
+        record { tray_cells_lem = k.tray_cells_lem; late_cells_lem = k.late_cells_lem; tray = let a = length-less x.slip.sender x.slip.number cells.tray in let b = k.tray in omega arith; late = let a = length_push cells.late x in omega arith }
+    go false e true = room_arrives (turns cells x.slip.receiver) x (room_turns cells x.slip.receiver k)
+    go false e false = room_arrives cells x k
 
 room_gather : (m : Model) (x : HouseState m.State) (s : ℕ) → Room x.cells → Room (after_gather m x s).cells
 room_gather m x s k = go (eqb s 0)

@@ -29,32 +29,32 @@ use Rattle.house_rules.specs.Calls.Event.{enter, post, take}
 use Rattle.house_rules.proofs.Lists.Puts.{put_other}
 
 -- a take leaves the root's mark
-arrives_root : (h : Cells) (x : ColouredSlip) → x.slip.receiver < length h.stations → (station_at (arrives h x) 0).gathered ≡ (station_at h 0).gathered
-arrives_root h x l = root_kept h x.slip.receiver (took_station (station_at h x.slip.receiver)) l refl
+arrives_root : (cells : Cells) (x : ColouredSlip) → x.slip.receiver < length cells.stations → (station_at (arrives cells x) 0).gathered ≡ (station_at cells 0).gathered
+arrives_root cells x l = root_kept cells x.slip.receiver (took_station (station_at cells x.slip.receiver)) l refl
 
-turns_root : (h : Cells) (s : ℕ) → s < length h.stations → (station_at (turns h s) 0).gathered ≡ (station_at h 0).gathered
-turns_root h s l = root_kept h s (turned_station (station_at h s)) l refl
+turns_root : (cells : Cells) (s : ℕ) → s < length cells.stations → (station_at (turns cells s) 0).gathered ≡ (station_at cells 0).gathered
+turns_root cells s l = root_kept cells s (turned_station (station_at cells s)) l refl
 
-arrived_root : (p : Phase) (h : Cells) (x : ColouredSlip) → x.slip.receiver < length h.stations → ((station_at (arrived p h x) 0).gathered ≡ (station_at h 0).gathered) × ((arrived p h x).n ≡ h.n)
-arrived_root p h x l = go (is_late p h x) (turns_receiver p h x)
+arrived_root : (p : Phase) (cells : Cells) (x : ColouredSlip) → x.slip.receiver < length cells.stations → ((station_at (arrived p cells x) 0).gathered ≡ (station_at cells 0).gathered) × ((arrived p cells x).n ≡ cells.n)
+arrived_root p cells x l = go (is_late p cells x) (turns_receiver p cells x)
   where
-    go : (b t : Bool) → ((station_at (cond b (arrives_late h x) (arrives (cond t (turns h x.slip.receiver) h) x)) 0).gathered ≡ (station_at h 0).gathered) × ((cond b (arrives_late h x) (arrives (cond t (turns h x.slip.receiver) h) x)).n ≡ h.n)
-    go true t = (root_kept h x.slip.receiver (late_station (station_at h x.slip.receiver)) l refl, refl)
-    go false true = (arrives_root (turns h x.slip.receiver) x (rw (length-set h.stations x.slip.receiver (turned_station (station_at h x.slip.receiver))) l) ∙ turns_root h x.slip.receiver l, refl)
-    go false false = (arrives_root h x l, refl)
+    go : (b t : Bool) → ((station_at (cond b (arrives_late cells x) (arrives (cond t (turns cells x.slip.receiver) cells) x)) 0).gathered ≡ (station_at cells 0).gathered) × ((cond b (arrives_late cells x) (arrives (cond t (turns cells x.slip.receiver) cells) x)).n ≡ cells.n)
+    go true t = (root_kept cells x.slip.receiver (late_station (station_at cells x.slip.receiver)) l refl, refl)
+    go false true = (arrives_root (turns cells x.slip.receiver) x (rw (length-set cells.stations x.slip.receiver (turned_station (station_at cells x.slip.receiver))) l) ∙ turns_root cells x.slip.receiver l, refl)
+    go false false = (arrives_root cells x l, refl)
 
 module _ (m : Model) (ml : models.Lawful m) (rule : Rule) (c : Cut) (x : HouseState m.State) (k : Holds m rule c x) where
   abbrev p : Phase
   p = x.phase
 
-  abbrev h : Cells
-  h = x.cells
+  abbrev cells : Cells
+  cells = x.cells
 
   below : (s : ℕ) → ltb s x.cells.n ≡ true → s < length x.cells.stations
   below s e = rw k.sound.shape.stations (ltb-true s x.cells.n e)
 
-  still : (h' : Cells) → (station_at h' 0).gathered ≡ (station_at x.cells 0).gathered → h'.n ≡ x.cells.n → Served m x.phase h' x.method
-  still h' g n = served_on m x.phase x.phase x.cells h' x.method (ap (λ b. is_counting x.phase && b) g) n k.served
+  still : (cells' : Cells) → (station_at cells' 0).gathered ≡ (station_at x.cells 0).gathered → cells'.n ≡ x.cells.n → Served m x.phase cells' x.method
+  still cells' g n = served_on m x.phase x.phase x.cells cells' x.method (ap (λ b. is_counting x.phase && b) g) n k.served
 
   taken_served : (a b : ℕ) (o : Option ColouredSlip) → under_way x.cells a b ≡ o → Served m x.phase (taken_cells x.phase x.cells o) x.method
   taken_served a b None s = k.served
@@ -64,8 +64,8 @@ module _ (m : Model) (ml : models.Lawful m) (rule : Rule) (c : Cut) (x : HouseSt
       still (arrived x.phase x.cells y) e.0 e.1
 
   -- outside a count, and in a count whose root has not gathered, the method is idle
-  idle_served : (p' : Phase) (h' : Cells) → begun? p' h' ≡ false → m.rules.outstanding x.method ≡ 0 → Served m p' h' x.method
-  idle_served p' h' e o = record { valid = k.served.valid; idle = λ _. o; counted = λ i. absurd (true≢false (sym i ∙ e)) }
+  idle_served : (p' : Phase) (cells' : Cells) → begun? p' cells' ≡ false → m.rules.outstanding x.method ≡ 0 → Served m p' cells' x.method
+  idle_served p' cells' e o = record { valid = k.served.valid; idle = λ _. o; counted = λ i. absurd (true≢false (sym i ∙ e)) }
 
   gather_served : (s : ℕ) → AllYes (gather_questions x.phase x.cells s) → AllYes (root_questions m x s) → Served m (after_gather m x s).phase (after_gather m x s).cells (after_gather m x s).method
   gather_served s y z = go (eqb s 0) refl
@@ -81,22 +81,22 @@ module _ (m : Model) (ml : models.Lawful m) (rule : Rule) (c : Cut) (x : HouseSt
       go false e = still (gathered_cells x.cells s) (ap (λ f. f 0) g_is ∙ put_other (λ t. (station_at x.cells t).gathered) s 0 true (λ w. eqb-false s 0 e (sym w))) refl
 
   pub granted_served : (call : Call) → AllYes (house_questions rule x.phase x.cells (m.rules.outstanding x.method) call) → AllYes (method_questions m x call) → Served m (after m rule x call).phase (after m rule x call).cells (after m rule x call).method
-  granted_served (event (enter s a b r)) y z = still (entered_cells rule h s a b r) refl refl
+  granted_served (event (enter s a b r)) y z = still (entered_cells rule cells s a b r) refl refl
   granted_served (event (post s to line amount)) y z =
       let q = and_parts _ _ y.0 in
-      still (posted_cells h s to line amount) (root_kept h s (posted_station (station_at h s)) (below s q.0) refl) refl
-  granted_served (event (take a b)) y z = taken_served a b (under_way h a b) refl
+      still (posted_cells cells s to line amount) (root_kept cells s (posted_station (station_at cells s)) (below s q.0) refl) refl
+  granted_served (event (take a b)) y z = taken_served a b (under_way cells a b) refl
   granted_served (open' s) y z =
-      let ls : s < length (map cleared_station h.stations) = rw (length-map h.stations cleared_station) (below s y.0) in
-      let g : (station_at (opened_cells h s) 0).gathered ≡ false = root_kept (cleared h) s (turned_station (station_at (cleared h) s)) ls refl ∙ ap (λ t. t.gathered) (mapped h.stations 0) in
-      idle_served Counting (opened_cells h s) g (k.served.idle (ap (λ q. is_counting q && (station_at h 0).gathered) (is_ready_lem p y.1.0)))
-  granted_served (turn s) y z = still (turns h s) (turns_root h s (below s y.0)) refl
+      let ls : s < length (map cleared_station cells.stations) = rw (length-map cells.stations cleared_station) (below s y.0) in
+      let g : (station_at (opened_cells cells s) 0).gathered ≡ false = root_kept (cleared cells) s (turned_station (station_at (cleared cells) s)) ls refl ∙ ap (λ t. t.gathered) (mapped cells.stations 0) in
+      idle_served Counting (opened_cells cells s) g (k.served.idle (ap (λ q. is_counting q && (station_at cells 0).gathered) (is_ready_lem p y.1.0)))
+  granted_served (turn s) y z = still (turns cells s) (turns_root cells s (below s y.0)) refl
   granted_served (gather s) y z = gather_served s y z
   granted_served (report s) y z =
       let l = arrived_left m ml rule c x k s z in
-      let g : (get_or (set h.stations s (reported_station (station_at h s))) 0 fresh).gathered ≡ true = root_kept h s (reported_station (station_at h s)) (below s y.0) refl ∙ y.1.1.0 in
+      let g : (get_or (set cells.stations s (reported_station (station_at cells s))) 0 fresh).gathered ≡ true = root_kept cells s (reported_station (station_at cells s)) (below s y.0) refl ∙ y.1.1.0 in
       record { valid = l.2; idle = λ i. absurd (true≢false (sym (and_from (is_counting p) _ y.1.0 g) ∙ i)); counted = λ _. l.1 ∙ k.served.counted (and_from (is_counting p) _ y.1.0 y.1.1.0) }
-  granted_served close y z = idle_served Closed h refl (eqb-true (m.rules.outstanding x.method) 0 y.1.1.0)
+  granted_served close y z = idle_served Closed cells refl (eqb-true (m.rules.outstanding x.method) 0 y.1.1.0)
   granted_served (file late_on_receipt text) y z =
       let q = and_parts _ _ y.0 in
-      idle_served Ready h refl (k.served.idle (ap (λ q. is_counting q && (station_at h 0).gathered) (is_closed_lem p q.0)))
+      idle_served Ready cells refl (k.served.idle (ap (λ q. is_counting q && (station_at cells 0).gathered) (is_closed_lem p q.0)))

@@ -46,12 +46,12 @@ pub start_numbered : (n : ℕ) → Numbered (start_view n)
 start_numbered n a b x e = let z : ◌≡◌ {A = ℕ} 0 1 = cc in absurd (omega arith)
 
 -- while a station has not turned, the root has not gathered
-pub root_waits : (c : Cut) (h : Cells) → Tree h.n (λ s. (station_at h s).gathered) c.turned → (s : ℕ) → s < h.n → c.turned s ≡ false → (station_at h 0).gathered ≡ false
-root_waits c h tree s lt un = go (station_at h 0).gathered refl
+pub root_waits : (c : Cut) (cells : Cells) → Tree cells.n (λ s. (station_at cells s).gathered) c.turned → (s : ℕ) → s < cells.n → c.turned s ≡ false → (station_at cells 0).gathered ≡ false
+root_waits c cells tree s lt un = go (station_at cells 0).gathered refl
   where
-    go : (b : Bool) → (station_at h 0).gathered ≡ b → b ≡ false
+    go : (b : Bool) → (station_at cells 0).gathered ≡ b → b ≡ false
     go false e = refl
-    go true e = let k = all_turned h.n (λ s. (station_at h s).gathered) c.turned tree e s lt in let z : ◌≡◌ {A = ℕ} 0 1 = cc in absurd (omega arith)
+    go true e = let k = all_turned cells.n (λ s. (station_at cells s).gathered) c.turned tree e s lt in let z : ◌≡◌ {A = ℕ} 0 1 = cc in absurd (omega arith)
 
 -- all sheets of a blank house have 32 lines
 blank_wide : (n s : ℕ) → s < n → length (get_or (replicate n blank_sheet) s []) ≡ 32

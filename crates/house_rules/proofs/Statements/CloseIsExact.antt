@@ -66,8 +66,8 @@ close_is_exact m ml rule x history = (
     g : Progress
     g = progress_of (granted_calls m rule x history)
 
-    h : Cells
-    h = x.cells
+    cells : Cells
+    cells = x.cells
 
     p : Phase
     p = x.phase
@@ -78,35 +78,35 @@ close_is_exact m ml rule x history = (
     holds : Holds m rule c x
     holds = history_holds m ml rule x history
 
-    so : Sound rule c p h out
+    so : Sound rule c p cells out
     so = holds.sound
 
-    k : Kept g p h
+    k : Kept g p cells
     k = history_kept m ml rule x history
 
-    there : is_done (step m rule x close) ≡ true → Complete h.n c g (slips_of h.tray)
+    there : is_done (step m rule x close) ≡ true → Complete cells.n c g (slips_of cells.tray)
     there q =
-        let y = all_yes_lem (close_questions p h out) (sym (house_decides m rule c x holds close) ∙ done_none (first_no (questions m rule x close)) _ _ q) in
+        let y = all_yes_lem (close_questions p cells out) (sym (house_decides m rule c x holds close) ∙ done_none (first_no (questions m rule x close)) _ _ q) in
         let ph = is_counting_lem p y.0 in
-        let co = during_of rule c p h out so ph in
-        let o = owed rule c p h out so co y.1.0 in
+        let co = during_of rule c p cells out so ph in
+        let o = owed rule c p cells out so co y.1.0 in
         let zo = eqb-true out 0 y.1.1.0 in
-        let u : sum_n (λ s. (station_at h s).unreported) h.n ≡ 0 = omega arith in
+        let u : sum_n (λ s. (station_at cells s).unreported) cells.n ≡ 0 = omega arith in
         record {
           opened = k.opened ∙ y.0;
-          gathered = λ s lt. ap (λ f. f s) k.gathered ∙ all_gathered h.n (λ s. (station_at h s).gathered) c.turned co.tree y.1.0 (suc s) s (omega arith) lt;
-          arrived = all_plain (λ (z : Slip). c.new z.sender z.number ≡ true) h.tray (All-weaker _ _ (λ x e. not-false _ e) h.tray (none_old rule c p h out so co y.1.0 zo));
-          reported = λ s lt. let a = k.late_takes s in let b = sum_n_zero (λ s. (station_at h s).unreported) h.n u s lt in omega arith;
+          gathered = λ s lt. ap (λ f. f s) k.gathered ∙ all_gathered cells.n (λ s. (station_at cells s).gathered) c.turned co.tree y.1.0 (suc s) s (omega arith) lt;
+          arrived = all_plain (λ (z : Slip). c.new z.sender z.number ≡ true) cells.tray (All-weaker _ _ (λ x e. not-false _ e) cells.tray (none_old rule c p cells out so co y.1.0 zo));
+          reported = λ s lt. let a = k.late_takes s in let b = sum_n_zero (λ s. (station_at cells s).unreported) cells.n u s lt in omega arith;
         }
 
-    back : Complete h.n c g (slips_of h.tray) → is_done (step m rule x close) ≡ true
+    back : Complete cells.n c g (slips_of cells.tray) → is_done (step m rule x close) ≡ true
     back z =
         let pc : is_counting p ≡ true = sym k.opened ∙ z.opened in
         let ph = is_counting_lem p pc in
-        let co = during_of rule c p h out so ph in
-        let root : (station_at h 0).gathered ≡ true = ap (λ f. f 0) (sym k.gathered) ∙ z.gathered 0 so.shape.some' in
-        let o = owed rule c p h out so co root in
-        let olds : count (λ a b. not (c.new a b)) h.tray ≡ 0 = count_none (λ a b. not (c.new a b)) h.tray (All-weaker _ _ (λ x e. ap not e) h.tray (plain_all (λ (y : Slip). c.new y.sender y.number ≡ true) h.tray z.arrived)) in
-        let us : sum_n (λ s. (station_at h s).unreported) h.n ≡ 0 = sum_n_none (λ s. (station_at h s).unreported) h.n (λ s lt. let a = k.late_takes s in let b = z.reported s lt in omega arith) in
+        let co = during_of rule c p cells out so ph in
+        let root : (station_at cells 0).gathered ≡ true = ap (λ f. f 0) (sym k.gathered) ∙ z.gathered 0 so.shape.some' in
+        let o = owed rule c p cells out so co root in
+        let olds : count (λ a b. not (c.new a b)) cells.tray ≡ 0 = count_none (λ a b. not (c.new a b)) cells.tray (All-weaker _ _ (λ x e. ap not e) cells.tray (plain_all (λ (y : Slip). c.new y.sender y.number ≡ true) cells.tray z.arrived)) in
+        let us : sum_n (λ s. (station_at cells s).unreported) cells.n ≡ 0 = sum_n_none (λ s. (station_at cells s).unreported) cells.n (λ s lt. let a = k.late_takes s in let b = z.reported s lt in omega arith) in
         let left : out ≡ 0 = omega arith in
-        ap (λ q. is_done (outcome q (after m rule x close) (reply m x close))) (house_decides m rule c x holds close ∙ no_first (close_questions p h out) (pc, (root, (eq-eqb out 0 left, tt))))
+        ap (λ q. is_done (outcome q (after m rule x close) (reply m x close))) (house_decides m rule c x holds close ∙ no_first (close_questions p cells out) (pc, (root, (eq-eqb out 0 left, tt))))

@@ -17,11 +17,11 @@ use Rattle.house_rules.proofs.Statements.EveryHistory.{made_yes}
 use Rattle.house_rules.proofs.Calls.Outcome.{outcome_answer, step_done}
 use Rattle.house_rules.specs.Calls.Event.{enter, post, take}
 
-taken_sent : (p : Phase) (h : Cells) (o : Option ColouredSlip) → (taken_cells p h o).messages ≡ h.messages
-taken_sent p h None = refl
-taken_sent p h (Some x) = go (is_late p h x) (turns_receiver p h x)
+taken_sent : (p : Phase) (cells : Cells) (o : Option ColouredSlip) → (taken_cells p cells o).messages ≡ cells.messages
+taken_sent p cells None = refl
+taken_sent p cells (Some x) = go (is_late p cells x) (turns_receiver p cells x)
   where
-    go : (a b : Bool) → (cond a (arrives_late h x) (arrives (cond b (turns h x.slip.receiver) h) x)).messages ≡ h.messages
+    go : (a b : Bool) → (cond a (arrives_late cells x) (arrives (cond b (turns cells x.slip.receiver) cells) x)).messages ≡ cells.messages
     go true b = refl
     go false true = refl
     go false false = refl

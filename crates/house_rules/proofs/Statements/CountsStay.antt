@@ -20,10 +20,10 @@ use Rattle.house_rules.specs.Calls.Event.{enter, post, take}
 stays : {Q : Type 0} (x y : HouseState Q) → is_counting y.phase ≡ false → y.cells.recorded ≡ x.cells.recorded → y.cells.late ≡ x.cells.late → Stays x y
 stays x y p r l = record { shut = p; recorded = r; late = l; text = ap (λ f. count_text f (slips_of y.cells.late)) r ∙ ap (λ f. count_text x.cells.recorded (slips_of f)) l }
 
-taken_stays : (h : Cells) (p : Phase) (o : Option ColouredSlip) → is_counting p ≡ false → ((taken_cells p h o).recorded ≡ h.recorded) × ((taken_cells p h o).late ≡ h.late)
-taken_stays h p None nc = (refl, refl)
-taken_stays h p (Some x) nc =
-    let way : arrived p h x ≡ arrives h x = rw nc in
+taken_stays : (cells : Cells) (p : Phase) (o : Option ColouredSlip) → is_counting p ≡ false → ((taken_cells p cells o).recorded ≡ cells.recorded) × ((taken_cells p cells o).late ≡ cells.late)
+taken_stays cells p None nc = (refl, refl)
+taken_stays cells p (Some x) nc =
+    let way : arrived p cells x ≡ arrives cells x = rw nc in
     (ap (λ (z : Cells). z.recorded) way, ap (λ (z : Cells). z.late) way)
 
 module _ (m : Model) (rule : Rule) where

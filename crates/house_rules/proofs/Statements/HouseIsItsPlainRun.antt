@@ -35,29 +35,29 @@ run_push : (r : Rule) (p : PlainHouse) (es : List Event) (e : Event) → plain_r
 run_push r p [] e = refl
 run_push r p (d ∷ ds) e = run_push r (or_stays p (plain_step r p d)) ds e
 
-module _ (r : Rule) (c : Cut) (p : Phase) (h : Cells) (out : ℕ) (so : Sound r c p h out) where
-  whole : (q : PlainHouse) × Plays r (blank h.n) c.all q × (plain_view q ≡ cells_view h) × Fine h.n q
+module _ (r : Rule) (c : Cut) (p : Phase) (cells : Cells) (out : ℕ) (so : Sound r c p cells out) where
+  whole : (q : PlainHouse) × Plays r (blank cells.n) c.all q × (plain_view q ≡ cells_view cells) × Fine cells.n q
   whole =
-      let w = plays_all h.n r so.common.ds (blank h.n) (cells_view h) (fine_blank h.n) so.common.run in
-      (w.0, subst (λ es. Plays r (blank h.n) es w.0) so.common.is_all w.1, w.2, w.3)
+      let w = plays_all cells.n r so.common.ds (blank cells.n) (cells_view cells) (fine_blank cells.n) so.common.run in
+      (w.0, subst (λ es. Plays r (blank cells.n) es w.0) so.common.is_all w.1, w.2, w.3)
 
-  run_is : plain_run r (blank h.n) c.all ≡ whole.0
-  run_is = plays_run r (blank h.n) whole.0 c.all whole.1
+  run_is : plain_run r (blank cells.n) c.all ≡ whole.0
+  run_is = plays_run r (blank cells.n) whole.0 c.all whole.1
 
-  pub run_refuses_none : RefusesNone r (blank h.n) c.all
-  run_refuses_none = plays_refuses_none r (blank h.n) whole.0 c.all whole.1
+  pub run_refuses_none : RefusesNone r (blank cells.n) c.all
+  run_refuses_none = plays_refuses_none r (blank cells.n) whole.0 c.all whole.1
 
-  pub run_sheets : (plain_run r (blank h.n) c.all).sheets ≡ h.sheets
+  pub run_sheets : (plain_run r (blank cells.n) c.all).sheets ≡ cells.sheets
   run_sheets =
       ap (λ (q : PlainHouse). q.sheets) run_is
-      ∙ ext_get_or [] whole.0.sheets h.sheets (whole.3.sheets ∙ sym so.shape.sheets) (λ s l. ap (λ v. v.sheet s) whole.2)
+      ∙ ext_get_or [] whole.0.sheets cells.sheets (whole.3.sheets ∙ sym so.shape.sheets) (λ s l. ap (λ v. v.sheet s) whole.2)
 
-  pub run_posted : (s : ℕ) → get_or (plain_run r (blank h.n) c.all).posted s 0 ≡ (station_at h s).posted
+  pub run_posted : (s : ℕ) → get_or (plain_run r (blank cells.n) c.all).posted s 0 ≡ (station_at cells s).posted
   run_posted s = ap (λ (q : PlainHouse). get_or q.posted s 0) run_is ∙ ap (λ v. v.posted s) whole.2
 
 -- the slips under way by the plain run are those of the tray, in order
 abbrev Ordered : Rule → Cut → Cells → Type 0
-Ordered r c h = (plain_run r (blank h.n) c.all).under_way ≡ slips_of h.tray
+Ordered r c cells = (plain_run r (blank cells.n) c.all).under_way ≡ slips_of cells.tray
 
 entry_stays : (r : Rule) (p : PlainHouse) (s a b : ℕ) (z : _) → (or_stays p (plain_step r p (enter s a b z))).under_way ≡ p.under_way
 entry_stays r p s a b z = go (ltb s (length p.sheets) && all_yes (r.entry (get_or p.sheets s []) a b z))
@@ -66,32 +66,32 @@ entry_stays r p s a b z = go (ltb s (length p.sheets) && all_yes (r.entry (get_o
     go true = refl
     go false = refl
 
-module _ (r : Rule) (c : Cut) (p : Phase) (h : Cells) (out : ℕ) (so : Sound r c p h out) (k : Ordered r c h) where
-  post_ordered : (s to line : ℕ) (amount : _) → ltb s h.n ≡ true → ltb to h.n ≡ true → all_yes (r.debit (sheet_at h s) line amount) ≡ true → (plain_run r (blank h.n) (c.all ++ post s to line amount ∷ [])).under_way ≡ slips_of h.tray ++ posted_slip h s to line amount ∷ []
+module _ (r : Rule) (c : Cut) (p : Phase) (cells : Cells) (out : ℕ) (so : Sound r c p cells out) (k : Ordered r c cells) where
+  post_ordered : (s to line : ℕ) (amount : _) → ltb s cells.n ≡ true → ltb to cells.n ≡ true → all_yes (r.debit (sheet_at cells s) line amount) ≡ true → (plain_run r (blank cells.n) (c.all ++ post s to line amount ∷ [])).under_way ≡ slips_of cells.tray ++ posted_slip cells s to line amount ∷ []
   post_ordered s to line amount ls lt ok =
-      ap (λ (q : PlainHouse). q.under_way) (run_push r (blank h.n) c.all (post s to line amount))
-      ∙ (let es = run_sheets r c p h out so in let ep = run_posted r c p h out so s in let en = so.shape.sheets in rw (es, en, ls, lt, ok, k, ep))
+      ap (λ (q : PlainHouse). q.under_way) (run_push r (blank cells.n) c.all (post s to line amount))
+      ∙ (let es = run_sheets r c p cells out so in let ep = run_posted r c p cells out so s in let en = so.shape.sheets in rw (es, en, ls, lt, ok, k, ep))
 
-  take_ordered : (x : ColouredSlip) → find_coloured x.slip.sender x.slip.number h.tray ≡ Some x → all_yes (r.credit (sheet_at h x.slip.receiver) x.slip.line x.slip.amount) ≡ true → (plain_run r (blank h.n) (c.all ++ take x.slip.sender x.slip.number ∷ [])).under_way ≡ without x.slip.sender x.slip.number (slips_of h.tray)
+  take_ordered : (x : ColouredSlip) → find_coloured x.slip.sender x.slip.number cells.tray ≡ Some x → all_yes (r.credit (sheet_at cells x.slip.receiver) x.slip.line x.slip.amount) ≡ true → (plain_run r (blank cells.n) (c.all ++ take x.slip.sender x.slip.number ∷ [])).under_way ≡ without x.slip.sender x.slip.number (slips_of cells.tray)
   take_ordered x here ok =
-      ap (λ (q : PlainHouse). q.under_way) (run_push r (blank h.n) c.all (take x.slip.sender x.slip.number))
-      ∙ (let es = run_sheets r c p h out so in let f = find_coloured_lem x.slip.sender x.slip.number h.tray x here in rw (k, f, es, ok, k))
+      ap (λ (q : PlainHouse). q.under_way) (run_push r (blank cells.n) c.all (take x.slip.sender x.slip.number))
+      ∙ (let es = run_sheets r c p cells out so in let f = find_coloured_lem x.slip.sender x.slip.number cells.tray x here in rw (k, f, es, ok, k))
 
 -- a taken slip leaves the tray, whichever way it goes
-arrived_tray : (r : Rule) (es : List Event) (p : Phase) (h : Cells) (x : ColouredSlip) → (plain_run r (blank h.n) es).under_way ≡ without x.slip.sender x.slip.number (slips_of h.tray) → (plain_run r (blank (arrived p h x).n) es).under_way ≡ slips_of (arrived p h x).tray
-arrived_tray r es p h x e = go (is_late p h x) (turns_receiver p h x)
+arrived_tray : (r : Rule) (es : List Event) (p : Phase) (cells : Cells) (x : ColouredSlip) → (plain_run r (blank cells.n) es).under_way ≡ without x.slip.sender x.slip.number (slips_of cells.tray) → (plain_run r (blank (arrived p cells x).n) es).under_way ≡ slips_of (arrived p cells x).tray
+arrived_tray r es p cells x e = go (is_late p cells x) (turns_receiver p cells x)
   where
-    go : (a b : Bool) → (plain_run r (blank (cond a (arrives_late h x) (arrives (cond b (turns h x.slip.receiver) h) x)).n) es).under_way ≡ slips_of (cond a (arrives_late h x) (arrives (cond b (turns h x.slip.receiver) h) x)).tray
-    go true b = e ∙ sym (slips_less x.slip.sender x.slip.number h.tray)
-    go false true = e ∙ sym (slips_less x.slip.sender x.slip.number h.tray)
-    go false false = e ∙ sym (slips_less x.slip.sender x.slip.number h.tray)
+    go : (a b : Bool) → (plain_run r (blank (cond a (arrives_late cells x) (arrives (cond b (turns cells x.slip.receiver) cells) x)).n) es).under_way ≡ slips_of (cond a (arrives_late cells x) (arrives (cond b (turns cells x.slip.receiver) cells) x)).tray
+    go true b = e ∙ sym (slips_less x.slip.sender x.slip.number cells.tray)
+    go false true = e ∙ sym (slips_less x.slip.sender x.slip.number cells.tray)
+    go false false = e ∙ sym (slips_less x.slip.sender x.slip.number cells.tray)
 
-taken_ordered : (r : Rule) (c : Cut) (p : Phase) (h : Cells) (out : ℕ) → Sound r c p h out → Ordered r c h → (a b : ℕ) (o : Option ColouredSlip) → under_way h a b ≡ o → AllYes (take_questions r p h o) → Ordered r (cut_after c (event (take a b))) (taken_cells p h o)
-taken_ordered r c p h out so k a b None s y = absurd (true≢false (sym y.0))
-taken_ordered r c p h out so k a b (Some x) s y =
-    let n = find_named a b (slips_of h.tray) x.slip (find_coloured_lem a b h.tray x s) in
-    let t = arrived_tray r (c.all ++ take x.slip.sender x.slip.number ∷ []) p h x (take_ordered r c p h out so k x (own_name a b h.tray x s) (told_tested section_code (r.credit (sheet_at h x.slip.receiver) x.slip.line x.slip.amount) y.1)) in
-    subst (λ i. (plain_run r (blank (arrived p h x).n) (c.all ++ take i b ∷ [])).under_way ≡ slips_of (arrived p h x).tray) n.0 (subst (λ i. (plain_run r (blank (arrived p h x).n) (c.all ++ take x.slip.sender i ∷ [])).under_way ≡ slips_of (arrived p h x).tray) n.1 t)
+taken_ordered : (r : Rule) (c : Cut) (p : Phase) (cells : Cells) (out : ℕ) → Sound r c p cells out → Ordered r c cells → (a b : ℕ) (o : Option ColouredSlip) → under_way cells a b ≡ o → AllYes (take_questions r p cells o) → Ordered r (cut_after c (event (take a b))) (taken_cells p cells o)
+taken_ordered r c p cells out so k a b None s y = absurd (true≢false (sym y.0))
+taken_ordered r c p cells out so k a b (Some x) s y =
+    let n = find_named a b (slips_of cells.tray) x.slip (find_coloured_lem a b cells.tray x s) in
+    let t = arrived_tray r (c.all ++ take x.slip.sender x.slip.number ∷ []) p cells x (take_ordered r c p cells out so k x (own_name a b cells.tray x s) (told_tested section_code (r.credit (sheet_at cells x.slip.receiver) x.slip.line x.slip.amount) y.1)) in
+    subst (λ i. (plain_run r (blank (arrived p cells x).n) (c.all ++ take i b ∷ [])).under_way ≡ slips_of (arrived p cells x).tray) n.0 (subst (λ i. (plain_run r (blank (arrived p cells x).n) (c.all ++ take x.slip.sender i ∷ [])).under_way ≡ slips_of (arrived p cells x).tray) n.1 t)
 
 gathered_ordered : (m : Model) (r : Rule) (c : Cut) (x : HouseState m.State) (s : ℕ) → Ordered r c x.cells → Ordered r c (after_gather m x s).cells
 gathered_ordered m r c x s k = go (eqb s 0)

@@ -39,7 +39,7 @@ abbrev Few : (n : ℕ) → List Station → (late messages : ℕ) → Type 0
 Few n ts late messages = messages + 1000 * sum_n (λ s. (get_or ts s fresh).unreported) n ≤ 1000 * (late + cond (get_or ts 0 fresh).gathered 1 0)
 
 abbrev FewIn : Cells → Type 0
-FewIn h = Few h.n h.stations (length h.late) h.messages
+FewIn cells = Few cells.n cells.stations (length cells.late) cells.messages
 
 module _ (n : ℕ) (ts : List Station) (late messages : ℕ) (f : Few n ts late messages) (s : ℕ) (l : s < length ts) where
   -- a change of one station that keeps the unreported number and the mark
@@ -87,22 +87,22 @@ module _ (n : ℕ) (ts : List Station) (late messages : ℕ) (f : Few n ts late 
       subst (λ b. messages + 1000 * sum_n (λ t. (get_or (set ts s (gathered_station (get_or ts s fresh))) t fresh).unreported) n ≤ 1000 * (late + cond b 1 0)) (sym eg)
       (subst (λ w. messages + 1000 * sum_n w n ≤ 1000 * (late + cond (get_or ts 0 fresh).gathered 1 0)) (sym eu) f)
 
-taken_few : (p : Phase) (h : Cells) (x : ColouredSlip) → x.slip.receiver < h.n → length h.stations ≡ h.n → FewIn h → FewIn (cond (is_late p h x) (arrives_late h x) (arrives (cond (turns_receiver p h x) (turns h x.slip.receiver) h) x))
-taken_few p h x lt ln f = go (is_late p h x) (turns_receiver p h x)
+taken_few : (p : Phase) (cells : Cells) (x : ColouredSlip) → x.slip.receiver < cells.n → length cells.stations ≡ cells.n → FewIn cells → FewIn (cond (is_late p cells x) (arrives_late cells x) (arrives (cond (turns_receiver p cells x) (turns cells x.slip.receiver) cells) x))
+taken_few p cells x lt ln f = go (is_late p cells x) (turns_receiver p cells x)
   where
-    l : x.slip.receiver < length h.stations
+    l : x.slip.receiver < length cells.stations
     l = rw ln lt
 
-    go : (a b : Bool) → FewIn (cond a (arrives_late h x) (arrives (cond b (turns h x.slip.receiver) h) x))
-    go true b = subst (λ k. Few h.n (set h.stations x.slip.receiver (late_station (station_at h x.slip.receiver))) k h.messages) (sym (length_push h.late x)) (few_late h.n h.stations (length h.late) h.messages f x.slip.receiver l lt)
+    go : (a b : Bool) → FewIn (cond a (arrives_late cells x) (arrives (cond b (turns cells x.slip.receiver) cells) x))
+    go true b = subst (λ k. Few cells.n (set cells.stations x.slip.receiver (late_station (station_at cells x.slip.receiver))) k cells.messages) (sym (length_push cells.late x)) (few_late cells.n cells.stations (length cells.late) cells.messages f x.slip.receiver l lt)
     go false true =
-        let t = few_set h.n h.stations (length h.late) h.messages f x.slip.receiver l (turned_station (station_at h x.slip.receiver)) refl refl in
-        few_set h.n (set h.stations x.slip.receiver (turned_station (station_at h x.slip.receiver))) (length h.late) h.messages t x.slip.receiver (rw (length-set h.stations x.slip.receiver (turned_station (station_at h x.slip.receiver))) l) (took_station (station_at (turns h x.slip.receiver) x.slip.receiver)) refl refl
-    go false false = few_set h.n h.stations (length h.late) h.messages f x.slip.receiver l (took_station (station_at h x.slip.receiver)) refl refl
+        let t = few_set cells.n cells.stations (length cells.late) cells.messages f x.slip.receiver l (turned_station (station_at cells x.slip.receiver)) refl refl in
+        few_set cells.n (set cells.stations x.slip.receiver (turned_station (station_at cells x.slip.receiver))) (length cells.late) cells.messages t x.slip.receiver (rw (length-set cells.stations x.slip.receiver (turned_station (station_at cells x.slip.receiver))) l) (took_station (station_at (turns cells x.slip.receiver) x.slip.receiver)) refl refl
+    go false false = few_set cells.n cells.stations (length cells.late) cells.messages f x.slip.receiver l (took_station (station_at cells x.slip.receiver)) refl refl
 
 module _ (m : Model) (ml : models.Lawful m) (rule : Rule) (c : Cut) (x : HouseState m.State) (k : Holds m rule c x) (f : FewIn x.cells) where
-  abbrev h : Cells
-  h = x.cells
+  abbrev cells : Cells
+  cells = x.cells
 
   below : (s : ℕ) → s < x.cells.n → s < length x.cells.stations
   below s lt = rw k.sound.shape.stations lt
@@ -134,14 +134,14 @@ module _ (m : Model) (ml : models.Lawful m) (rule : Rule) (c : Cut) (x : HouseSt
   granted_few (event (enter s a b r)) y z = f
   granted_few (event (post s to line amount)) y z =
       let q = and_parts _ _ y.0 in
-      few_set h.n h.stations (length h.late) h.messages f s (below s (ltb-true s h.n q.0)) (posted_station (station_at h s)) refl refl
-  granted_few (event (take a b)) y z = take_few a b (under_way h a b) refl
-  granted_few (open' s) y z = open_few s (ltb-true s h.n y.0)
-  granted_few (turn s) y z = few_set h.n h.stations (length h.late) h.messages f s (below s (ltb-true s h.n y.0)) (turned_station (station_at h s)) refl refl
+      few_set cells.n cells.stations (length cells.late) cells.messages f s (below s (ltb-true s cells.n q.0)) (posted_station (station_at cells s)) refl refl
+  granted_few (event (take a b)) y z = take_few a b (under_way cells a b) refl
+  granted_few (open' s) y z = open_few s (ltb-true s cells.n y.0)
+  granted_few (turn s) y z = few_set cells.n cells.stations (length cells.late) cells.messages f s (below s (ltb-true s cells.n y.0)) (turned_station (station_at cells s)) refl refl
   granted_few (gather s) y z = gather_few s y z
   granted_few (report s) y z =
-      let lt = ltb-true s h.n y.0 in
-      few_report h.n h.stations (length h.late) h.messages f s (below s lt) lt (ltb-true 0 (station_at h s).unreported y.1.1.1.0) (m.rules.arrived_sent x.method s) (ml.arrived_few x.method s (can_arrive m ml rule c x k s z))
+      let lt = ltb-true s cells.n y.0 in
+      few_report cells.n cells.stations (length cells.late) cells.messages f s (below s lt) lt (ltb-true 0 (station_at cells s).unreported y.1.1.1.0) (m.rules.arrived_sent x.method s) (ml.arrived_few x.method s (can_arrive m ml rule c x k s z))
   granted_few close y z = f
   granted_few (file late_on_receipt text) y z = f
 

@@ -37,24 +37,24 @@ low_section : (qs : SectionQuestions) → Low (told_as section_code qs)
 low_section [] = tt
 low_section (q ∷ qs) = (omega arith, low_section qs)
 
-low_take : (rule : Rule) (p : Phase) (h : Cells) (o : Option ColouredSlip) → Low (take_questions rule p h o)
-low_take rule p h None = (omega arith, tt)
-low_take rule p h (Some x) = (go (is_late p h x), (low_section (rule.credit (sheet_at h x.slip.receiver) x.slip.line x.slip.amount)))
+low_take : (rule : Rule) (p : Phase) (cells : Cells) (o : Option ColouredSlip) → Low (take_questions rule p cells o)
+low_take rule p cells None = (omega arith, tt)
+low_take rule p cells (Some x) = (go (is_late p cells x), (low_section (rule.credit (sheet_at cells x.slip.receiver) x.slip.line x.slip.amount)))
   where
-    go : (b : Bool) → (cond b (ask (ltb (length h.late) h.late_cells) (number 11)) (ask (is_deficit (running_after p h x)) (number 8))).told.0 < 23
+    go : (b : Bool) → (cond b (ask (ltb (length cells.late) cells.late_cells) (number 11)) (ask (is_deficit (running_after p cells x)) (number 8))).told.0 < 23
     go true = omega arith
     go false = omega arith
 
-low_house : (rule : Rule) (p : Phase) (h : Cells) (out : ℕ) (call : Call) → Low (house_questions rule p h out call)
-low_house rule p h out (event (enter s a b r)) = (omega arith, (omega arith, low_section (rule.entry (sheet_at h s) a b r)))
-low_house rule p h out (event (post s to line amount)) = (omega arith, (omega arith, (omega arith, (omega arith, (omega arith, low_section (rule.debit (sheet_at h s) line amount))))))
-low_house rule p h out (event (take a b)) = low_take rule p h (under_way h a b)
-low_house rule p h out (open' s) = (omega arith, (omega arith, tt))
-low_house rule p h out (turn s) = (omega arith, (omega arith, (omega arith, tt)))
-low_house rule p h out (gather s) = (omega arith, (omega arith, (omega arith, (omega arith, (omega arith, tt)))))
-low_house rule p h out (report s) = (omega arith, (omega arith, (omega arith, (omega arith, tt))))
-low_house rule p h out close = (omega arith, (omega arith, (omega arith, tt)))
-low_house rule p h out (file late_on_receipt text) = (omega arith, (omega arith, tt))
+low_house : (rule : Rule) (p : Phase) (cells : Cells) (out : ℕ) (call : Call) → Low (house_questions rule p cells out call)
+low_house rule p cells out (event (enter s a b r)) = (omega arith, (omega arith, low_section (rule.entry (sheet_at cells s) a b r)))
+low_house rule p cells out (event (post s to line amount)) = (omega arith, (omega arith, (omega arith, (omega arith, (omega arith, low_section (rule.debit (sheet_at cells s) line amount))))))
+low_house rule p cells out (event (take a b)) = low_take rule p cells (under_way cells a b)
+low_house rule p cells out (open' s) = (omega arith, (omega arith, tt))
+low_house rule p cells out (turn s) = (omega arith, (omega arith, (omega arith, tt)))
+low_house rule p cells out (gather s) = (omega arith, (omega arith, (omega arith, (omega arith, (omega arith, tt)))))
+low_house rule p cells out (report s) = (omega arith, (omega arith, (omega arith, (omega arith, tt))))
+low_house rule p cells out close = (omega arith, (omega arith, (omega arith, tt)))
+low_house rule p cells out (file late_on_receipt text) = (omega arith, (omega arith, tt))
 
 pub method_refuses_nothing : (m : Model) → models.Lawful m → MethodRefusesNothing m
 method_refuses_nothing m ml rule x history call = (
