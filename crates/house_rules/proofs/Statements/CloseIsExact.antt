@@ -1,7 +1,7 @@
 -- CloseIsExact: close is granted exactly where the count is complete.
 use Rattle.std.proofs.Common.{◌≡◌, ℕ, suc, true, not, List, [], ◌∷◌, Some, None, Option, sym, refl, ap, ◌∙◌, subst, arith}
 use mathlib.Core.Path.{fun_ext}
-use Rattle.std.proofs.ByRecursion.{All-weaker}
+use Rattle.std.proofs.ByRecursion.{All-weaker, All-map}
 use Rattle.std.proofs.lemmas.Bool.{true≢false, eqb-true, not-false, eq-eqb}
 use Rattle.std.specs.List.{AllByRecursion}
 use Rattle.sections.specs.Rule.{Rule}
@@ -41,11 +41,7 @@ history_kept : (m : Model) → models.Lawful m → (rule : Rule) (x : HouseState
 history_kept m ml rule x history =
     history_keeps m ml rule (λ c g x. Kept g x.phase x.cells) (λ c g x k kept call y z. granted_kept m rule c g x k.sound kept call y) (λ handed q. made_kept handed) x history
 
--- the slips of a tray, without and with their colours
-all_plain : (P : Slip → Type 0) (xs : List ColouredSlip) → AllByRecursion (λ (x : ColouredSlip). P x.slip) xs → AllByRecursion P (slips_of xs)
-all_plain P [] h = tt
-all_plain P (x ∷ xs) h = (h.0, all_plain P xs h.1)
-
+-- what holds of the slips of a tray holds of them with their colours
 plain_all : (P : Slip → Type 0) (xs : List ColouredSlip) → AllByRecursion P (slips_of xs) → AllByRecursion (λ (x : ColouredSlip). P x.slip) xs
 plain_all P [] h = tt
 plain_all P (x ∷ xs) h = (h.0, plain_all P xs h.1)
@@ -95,7 +91,7 @@ close_is_exact m ml rule x history = (
         record {
           opened = k.opened ∙ y.0;
           gathered = λ s lt. ap (λ f. f s) k.gathered ∙ all_gathered cells.n (λ s. (station_at cells s).gathered) c.turned co.tree y.1.0 (suc s) s (omega arith) lt;
-          arrived = all_plain (λ (z : Slip). c.new z.sender z.number ≡ true) cells.tray (All-weaker _ _ (λ x e. not-false _ e) cells.tray (none_old rule c p cells out so co y.1.0 zo));
+          arrived = All-map (λ (z : Slip). c.new z.sender z.number ≡ true) (λ (x : ColouredSlip). x.slip) cells.tray (All-weaker _ _ (λ x e. not-false _ e) cells.tray (none_old rule c p cells out so co y.1.0 zo));
           reported = λ s lt. let a = k.late_takes s in let b = sum_n_zero (λ s. (station_at cells s).unreported) cells.n u s lt in omega arith;
         }
 

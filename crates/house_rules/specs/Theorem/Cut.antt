@@ -13,7 +13,7 @@ put_slip f a b v x y = cond (same_name a b x y) v (f x y)
 
 -- the present count is the one opened last: from its close until the next open the fields still describe it
 pub record Cut : Type 0 where
-  pub all : List Event  -- every granted enter, post and take
+  pub all : List Event  -- every granted event
   pub before : List Event  -- those before their stations' turns for the present count, in the old order
   pub after : List Event  -- the rest, in the old order
   pub turned : ℕ → Bool  -- the stations that have turned in the present count
@@ -43,6 +43,7 @@ with_open c s = record { all = c.all; before = c.all; after = []; turned = put (
 abbrev pub with_take : Cut → (q a b : ℕ) → Cut
 with_take c q a b = with_event (with_turned c (put c.turned q (c.turned q || c.new a b))) (c.turned q || c.new a b) (take a b)
 
+-- the cut after an event, and after any call
 abbrev pub cut_after_event : Cut → Event → Cut
 cut_after_event c (enter s a b r) = with_event c (c.turned s) (enter s a b r)
 cut_after_event c (post s to line amount) = with_event (with_post c s to (c.posted s + 1)) (c.turned s) (post s to line amount)
