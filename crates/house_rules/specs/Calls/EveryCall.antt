@@ -36,7 +36,7 @@ pub data Answer : Type 0 where
   receipt : (late messages : ℕ) → Answer  -- late slips, and control messages since open
   filed : (written : ℕ) (text : List ℕ) → Answer  -- how many bytes were written, and the text after
 
--- what the house itself asks, in order; first of an event
+-- what the house itself asks, in order: of an event, and of any call
 abbrev pub event_questions : Rule → Phase → Cells → Event → List (Question Code)
 event_questions rule p cells (enter s a b r) = enter_questions rule cells s a b r
 event_questions rule p cells (post s to line amount) = post_questions rule cells s to line amount
@@ -80,7 +80,7 @@ after m rule x (report s) = after_report m x s
 after m rule x close = in_phase x Closed
 after m rule x (file late_on_receipt text) = in_phase x Ready
 
--- what it answers; first an event
+-- what a granted event answers, and any granted call
 abbrev pub event_reply : Cells → Event → Answer
 event_reply cells (enter s a b r) = nothing
 event_reply cells (post s to line amount) = number ((station_at cells s).posted + 1)
