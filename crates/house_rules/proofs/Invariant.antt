@@ -8,5 +8,5 @@ pub mod Cut
 pub mod Deficits
 pub mod GatheredSum
 pub mod Sound
-pub mod Parts
+pub mod Shared
 pub mod WholeHouse

@@ -1,9 +1,9 @@
+pub mod EveryHistory
 pub mod CloseIsACut
-pub mod MethodIsAskedRightly
 pub mod CountsAreConsistent
+pub mod ScoresAreGains
 pub mod MethodRefusesNothing
 pub mod HouseIsItsPlainRun
-pub mod Progress
 pub mod CloseIsExact
 pub mod MethodsAgree
 pub mod CountsStay

@@ -1,5 +1,6 @@
 pub mod Questions
 pub mod Make
+pub mod Event
 pub mod Enter
 pub mod Post
 pub mod Turn

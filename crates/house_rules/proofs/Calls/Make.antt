@@ -1,4 +1,4 @@
--- The cells of a made house have the invariant.
+-- make: a made house has the invariant.
 use Rattle.std.proofs.Common.{◌≡◌, ℕ, ◌≤◌, [], Some, sym, refl, ap, ◌∙◌, arith}
 use mathlib.Core.Path.{fun_ext}
 use Rattle.std.proofs.lemmas.List.{length-replicate}

@@ -1,4 +1,4 @@
--- What the outcome of a step says of its questions.
+-- Every call: what the outcome of a step says of its questions.
 use Rattle.std.proofs.Common.{◌≡◌, ℕ, Some, None, Option, sym, refl, ap}
 use Rattle.std.proofs.lemmas.Bool.{true≢false}
 use Rattle.sections.specs.Rule.{Rule}

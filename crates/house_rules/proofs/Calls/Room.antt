@@ -1,50 +1,38 @@
--- Every granted call keeps tray and late list within their cells, and the method in step with the count.
-use Rattle.std.proofs.Common.{◌≡◌, ℕ, ◌<◌, Bool, true, false, cond, ◌&&◌, eqb, ltb, map, length, get_or, set, Some, None, Option, sym, refl, ap, ◌∙◌, arith}
-use Rattle.std.proofs.lemmas.List.{length-set, length-map, length_push}
-use Rattle.std.proofs.lemmas.Bool.{true≢false, eqb-true, eqb-false, ltb-true, and_parts, and_from}
+-- Every call: where it is granted it keeps tray and late list within their cells.
+use Rattle.std.proofs.Common.{◌≡◌, ℕ, ◌<◌, Bool, true, false, cond, eqb, length, Some, None, Option, refl, arith}
+use Rattle.std.proofs.lemmas.List.{length_push}
+use Rattle.std.proofs.lemmas.Bool.{ltb-true}
 use Rattle.sections.specs.Rule.{Rule}
 use Rattle.methods.specs.Model.{Model}
 use Rattle.house_rules.specs.declared.phase.Phase.{Phase}
-use Rattle.house_rules.specs.declared.phase.Phase.TheVariants.{Ready, Counting, Closed}
 use Rattle.house_rules.specs.declared.slip.ColouredSlip.{ColouredSlip}
-use Rattle.house_rules.specs.Calls.EveryCall.{Call, house_questions, method_questions, after, enter, post, take, open', turn, gather, report, close, file}
+use Rattle.house_rules.specs.Calls.EveryCall.{Call, house_questions, after, open', turn, gather, report, close, file, event}
 use Rattle.house_rules.specs.State.Changes.{with_cells}
-use Rattle.house_rules.specs.Theorem.Cut.{put, Cut}
-use Rattle.house_rules.specs.Calls.Enter.{entered_cells}
-use Rattle.house_rules.specs.Calls.Gather.{gather_questions, gathered_station, gathered_cells, root_questions, root_gathers, after_gather}
-use Rattle.house_rules.specs.Calls.Open.{cleared_station, cleared, opened_cells}
-use Rattle.house_rules.specs.Calls.Post.{posted_station, posted_slip, posted_cells}
-use Rattle.house_rules.specs.Calls.Report.{reported_station}
-use Rattle.house_rules.specs.State.House.{Cells, HouseState, fresh, station_at, is_counting}
-use Rattle.house_rules.specs.Calls.Take.{is_late, turns_receiver, take_questions, took_station, late_station, arrives, arrives_late, arrived, taken_cells, under_way}
-use Rattle.house_rules.specs.Calls.Turn.{turned_station, turns}
-use Rattle.house_rules.proofs.Calls.EveryCall.{begun_left, arrived_left}
+use Rattle.house_rules.specs.Calls.Gather.{gathered_cells, root_gathers, after_gather}
+use Rattle.house_rules.specs.Calls.Post.{posted_slip}
+use Rattle.house_rules.specs.State.House.{Cells, HouseState, station_at}
+use Rattle.house_rules.specs.Calls.Take.{is_late, turns_receiver, take_questions, arrives, arrives_late, taken_cells, under_way}
+use Rattle.house_rules.specs.Calls.Turn.{turns}
 use Rattle.common.proofs.AllYes.{AllYes}
-use Rattle.house_rules.proofs.Invariant.Cells.{field_put, find_coloured_lem}
-use Rattle.house_rules.proofs.Invariant.WholeHouse.{Room, begun?, Served, Holds, served_on, length-less, root_kept}
-use Rattle.house_rules.proofs.Invariant.Phases.{is_ready_lem, is_closed_lem}
-use Rattle.house_rules.proofs.Calls.OpenGatherReportFile.{mapped}
-use Rattle.house_rules.proofs.Invariant.PlainHouse.{put_other}
-use Rattle.methods.specs.Model as models
+use Rattle.house_rules.proofs.Invariant.WholeHouse.{Room, length-less}
+use Rattle.house_rules.specs.Calls.Event.{enter, post, take}
 
--- Room
+room_arrives : (cells : Cells) (x : ColouredSlip) → Room cells → Room (arrives cells x)
+room_arrives cells x k = record { tray_cells_lem = k.tray_cells_lem; late_cells_lem = k.late_cells_lem; tray = let a = length-less x.slip.sender x.slip.number cells.tray in let b = k.tray in omega arith; late = k.late }
 
-room_arrives : (h : Cells) (x : ColouredSlip) → Room h → Room (arrives h x)
-room_arrives h x k = record { tray_cells_lem = k.tray_cells_lem; late_cells_lem = k.late_cells_lem; tray = let a = length-less x.slip.sender x.slip.number h.tray in let b = k.tray in omega arith; late = k.late }
+room_turns : (cells : Cells) (s : ℕ) → Room cells → Room (turns cells s)
+room_turns cells s k = record { tray_cells_lem = k.tray_cells_lem; late_cells_lem = k.late_cells_lem; tray = k.tray; late = k.late }
 
-room_turns : (h : Cells) (s : ℕ) → Room h → Room (turns h s)
-room_turns h s k = record { tray_cells_lem = k.tray_cells_lem; late_cells_lem = k.late_cells_lem; tray = k.tray; late = k.late }
-
-room_taken : (rule : Rule) (p : Phase) (h : Cells) (o : Option ColouredSlip) → AllYes (take_questions rule p h o) → Room h → Room (taken_cells p h o)
-room_taken rule p h None y k = k
-room_taken rule p h (Some x) y k = go (is_late p h x) refl (turns_receiver p h x)
+room_taken : (rule : Rule) (p : Phase) (cells : Cells) (o : Option ColouredSlip) → AllYes (take_questions rule p cells o) → Room cells → Room (taken_cells p cells o)
+room_taken rule p cells None y k = k
+room_taken rule p cells (Some x) y k = go (is_late p cells x) refl (turns_receiver p cells x)
   where
-    go : (b : Bool) → is_late p h x ≡ b → (t : Bool) → Room (cond b (arrives_late h x) (arrives (cond t (turns h x.slip.receiver) h) x))
+    go : (b : Bool) → is_late p cells x ≡ b → (t : Bool) → Room (cond b (arrives_late cells x) (arrives (cond t (turns cells x.slip.receiver) cells) x))
     go true e t =
-        let free : length h.late < h.late_cells = ltb-true (length h.late) h.late_cells (let z = y.0 in rw e at z) in
-        record { tray_cells_lem = k.tray_cells_lem; late_cells_lem = k.late_cells_lem; tray = let a = length-less x.slip.sender x.slip.number h.tray in let b = k.tray in omega arith; late = let a = length_push h.late x in omega arith }
-    go false e true = room_arrives (turns h x.slip.receiver) x (room_turns h x.slip.receiver k)
-    go false e false = room_arrives h x k
+        let free : length cells.late < cells.late_cells = ltb-true (length cells.late) cells.late_cells (let z = y.0 in rw e at z) in
+        record { tray_cells_lem = k.tray_cells_lem; late_cells_lem = k.late_cells_lem; tray = let a = length-less x.slip.sender x.slip.number cells.tray in let b = k.tray in omega arith; late = let a = length_push cells.late x in omega arith }
+    go false e true = room_arrives (turns cells x.slip.receiver) x (room_turns cells x.slip.receiver k)
+    go false e false = room_arrives cells x k
 
 room_gather : (m : Model) (x : HouseState m.State) (s : ℕ) → Room x.cells → Room (after_gather m x s).cells
 room_gather m x s k = go (eqb s 0)
@@ -54,89 +42,14 @@ room_gather m x s k = go (eqb s 0)
     go false = record { tray_cells_lem = k.tray_cells_lem; late_cells_lem = k.late_cells_lem; tray = k.tray; late = k.late }
 
 pub granted_room : (m : Model) (rule : Rule) (x : HouseState m.State) (call : Call) → AllYes (house_questions rule x.phase x.cells (m.rules.outstanding x.method) call) → Room x.cells → Room (after m rule x call).cells
-granted_room m rule x (enter s a b r) y k = record { tray_cells_lem = k.tray_cells_lem; late_cells_lem = k.late_cells_lem; tray = k.tray; late = k.late }
-granted_room m rule x (post s to line amount) y k =
+granted_room m rule x (event (enter s a b r)) y k = record { tray_cells_lem = k.tray_cells_lem; late_cells_lem = k.late_cells_lem; tray = k.tray; late = k.late }
+granted_room m rule x (event (post s to line amount)) y k =
     let free = ltb-true (length x.cells.tray) x.cells.tray_cells y.1.1.1.1.0 in
     record { tray_cells_lem = k.tray_cells_lem; late_cells_lem = k.late_cells_lem; tray = let a = length_push x.cells.tray (record { slip = posted_slip x.cells s to line amount; colour = (station_at x.cells s).colour }) in omega arith; late = k.late }
-granted_room m rule x (take a b) y k = room_taken rule x.phase x.cells (under_way x.cells a b) y k
+granted_room m rule x (event (take a b)) y k = room_taken rule x.phase x.cells (under_way x.cells a b) y k
 granted_room m rule x (open' s) y k = record { tray_cells_lem = k.tray_cells_lem; late_cells_lem = k.late_cells_lem; tray = k.tray; late = omega arith }
 granted_room m rule x (turn s) y k = room_turns x.cells s k
 granted_room m rule x (gather s) y k = room_gather m x s k
 granted_room m rule x (report s) y k = record { tray_cells_lem = k.tray_cells_lem; late_cells_lem = k.late_cells_lem; tray = k.tray; late = k.late }
 granted_room m rule x close y k = k
 granted_room m rule x (file late_on_receipt text) y k = k
-
--- The method
-
--- a take leaves the root's mark
-arrives_root : (h : Cells) (x : ColouredSlip) → x.slip.receiver < length h.stations → (station_at (arrives h x) 0).gathered ≡ (station_at h 0).gathered
-arrives_root h x l = root_kept h x.slip.receiver (took_station (station_at h x.slip.receiver)) l refl
-
-turns_root : (h : Cells) (s : ℕ) → s < length h.stations → (station_at (turns h s) 0).gathered ≡ (station_at h 0).gathered
-turns_root h s l = root_kept h s (turned_station (station_at h s)) l refl
-
-arrived_root : (p : Phase) (h : Cells) (x : ColouredSlip) → x.slip.receiver < length h.stations → ((station_at (arrived p h x) 0).gathered ≡ (station_at h 0).gathered) × ((arrived p h x).n ≡ h.n)
-arrived_root p h x l = go (is_late p h x) (turns_receiver p h x)
-  where
-    go : (b t : Bool) → ((station_at (cond b (arrives_late h x) (arrives (cond t (turns h x.slip.receiver) h) x)) 0).gathered ≡ (station_at h 0).gathered) × ((cond b (arrives_late h x) (arrives (cond t (turns h x.slip.receiver) h) x)).n ≡ h.n)
-    go true t = (root_kept h x.slip.receiver (late_station (station_at h x.slip.receiver)) l refl, refl)
-    go false true = (arrives_root (turns h x.slip.receiver) x (rw (length-set h.stations x.slip.receiver (turned_station (station_at h x.slip.receiver))) l) ∙ turns_root h x.slip.receiver l, refl)
-    go false false = (arrives_root h x l, refl)
-
-module _ (m : Model) (ml : models.Lawful m) (rule : Rule) (c : Cut) (x : HouseState m.State) (k : Holds m rule c x) where
-  abbrev p : Phase
-  p = x.phase
-
-  abbrev h : Cells
-  h = x.cells
-
-  below : (s : ℕ) → ltb s x.cells.n ≡ true → s < length x.cells.stations
-  below s e = rw k.sound.shape.stations (ltb-true s x.cells.n e)
-
-  still : (h' : Cells) → (station_at h' 0).gathered ≡ (station_at x.cells 0).gathered → h'.n ≡ x.cells.n → Served m x.phase h' x.method
-  still h' g n = served_on m x.phase x.phase x.cells h' x.method (ap (λ b. is_counting x.phase && b) g) n k.served
-
-  taken_served : (a b : ℕ) (o : Option ColouredSlip) → under_way x.cells a b ≡ o → Served m x.phase (taken_cells x.phase x.cells o) x.method
-  taken_served a b None s = k.served
-  taken_served a b (Some y) s =
-      let lt : y.slip.receiver < x.cells.n = k.sound.common.naming.meant a b y.slip (find_coloured_lem a b x.cells.tray y s) in
-      let e = arrived_root x.phase x.cells y (rw k.sound.shape.stations lt) in
-      still (arrived x.phase x.cells y) e.0 e.1
-
-  -- outside a count, and in a count whose root has not gathered, the method is idle
-  idle_served : (p' : Phase) (h' : Cells) → begun? p' h' ≡ false → m.rules.outstanding x.method ≡ 0 → Served m p' h' x.method
-  idle_served p' h' e o = record { valid = k.served.valid; idle = λ _. o; counted = λ i. absurd (true≢false (sym i ∙ e)) }
-
-  gather_served : (s : ℕ) → AllYes (gather_questions x.phase x.cells s) → AllYes (root_questions m x s) → Served m (after_gather m x s).phase (after_gather m x s).cells (after_gather m x s).method
-  gather_served s y z = go (eqb s 0) refl
-    where
-      g_is : (λ t. (get_or (set x.cells.stations s (gathered_station (station_at x.cells s))) t fresh).gathered) ≡ put (λ t. (station_at x.cells t).gathered) s true
-      g_is = field_put (λ t. t.gathered) x.cells.stations s (gathered_station (station_at x.cells s)) (below s y.0)
-
-      go : (b : Bool) → eqb s 0 ≡ b → Served m (cond b (root_gathers m x s) (with_cells x (gathered_cells x.cells s))).phase (cond b (root_gathers m x s) (with_cells x (gathered_cells x.cells s))).cells (cond b (root_gathers m x s) (with_cells x (gathered_cells x.cells s))).method
-      go true e =
-          let l = begun_left m ml rule c x k s e z in
-          let g : (get_or (set x.cells.stations s (gathered_station (station_at x.cells s))) 0 fresh).gathered ≡ true = ap (λ f. f 0) g_is ∙ (let w : put (λ t. (station_at x.cells t).gathered) s true 0 ≡ true = rw (eqb-true s 0 e) in w) in
-          record { valid = l.2; idle = λ i. absurd (true≢false (sym (and_from (is_counting x.phase) _ y.1.0 g) ∙ i)); counted = λ _. l.1 }
-      go false e = still (gathered_cells x.cells s) (ap (λ f. f 0) g_is ∙ put_other (λ t. (station_at x.cells t).gathered) s 0 true (λ w. eqb-false s 0 e (sym w))) refl
-
-  pub granted_served : (call : Call) → AllYes (house_questions rule x.phase x.cells (m.rules.outstanding x.method) call) → AllYes (method_questions m x call) → Served m (after m rule x call).phase (after m rule x call).cells (after m rule x call).method
-  granted_served (enter s a b r) y z = still (entered_cells rule h s a b r) refl refl
-  granted_served (post s to line amount) y z =
-      let q = and_parts _ _ y.0 in
-      still (posted_cells h s to line amount) (root_kept h s (posted_station (station_at h s)) (below s q.0) refl) refl
-  granted_served (take a b) y z = taken_served a b (under_way h a b) refl
-  granted_served (open' s) y z =
-      let ls : s < length (map cleared_station h.stations) = rw (length-map h.stations cleared_station) (below s y.0) in
-      let g : (station_at (opened_cells h s) 0).gathered ≡ false = root_kept (cleared h) s (turned_station (station_at (cleared h) s)) ls refl ∙ ap (λ t. t.gathered) (mapped h.stations 0) in
-      idle_served Counting (opened_cells h s) g (k.served.idle (ap (λ q. is_counting q && (station_at h 0).gathered) (is_ready_lem p y.1.0)))
-  granted_served (turn s) y z = still (turns h s) (turns_root h s (below s y.0)) refl
-  granted_served (gather s) y z = gather_served s y z
-  granted_served (report s) y z =
-      let l = arrived_left m ml rule c x k s z in
-      let g : (get_or (set h.stations s (reported_station (station_at h s))) 0 fresh).gathered ≡ true = root_kept h s (reported_station (station_at h s)) (below s y.0) refl ∙ y.1.1.0 in
-      record { valid = l.2; idle = λ i. absurd (true≢false (sym (and_from (is_counting p) _ y.1.0 g) ∙ i)); counted = λ _. l.1 ∙ k.served.counted (and_from (is_counting p) _ y.1.0 y.1.1.0) }
-  granted_served close y z = idle_served Closed h refl (eqb-true (m.rules.outstanding x.method) 0 y.1.1.0)
-  granted_served (file late_on_receipt text) y z =
-      let q = and_parts _ _ y.0 in
-      idle_served Ready h refl (k.served.idle (ap (λ q. is_counting q && (station_at h 0).gathered) (is_closed_lem p q.0)))

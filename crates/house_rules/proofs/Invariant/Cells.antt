@@ -1,5 +1,5 @@
 -- The cells as the plain house sees them, and what each call does to that.
-use Rattle.std.proofs.Common.{◌≡◌, ℕ, ◌+◌, ◌<◌, ◌≤◌, Bool, true, false, cond, eqb, List, [], ◌∷◌, ◌++◌, length, get_or, set, ℤ, Some, None, Option, sym, refl, ap, ◌∙◌, arith}
+use Rattle.std.proofs.Common.{◌≡◌, ℕ, ◌+◌, ◌<◌, ◌≤◌, Bool, true, false, cond, List, [], ◌∷◌, ◌++◌, length, get_or, set, ℤ, Some, None, Option, sym, refl, ap, ◌∙◌, arith}
 use mathlib.Core.Path.{fun_ext}
 use Rattle.std.proofs.lemmas.List.{map-append, length-set}
 use Rattle.common.specs.Questions.{all_yes}
@@ -14,28 +14,22 @@ use Rattle.house_rules.specs.Calls.Post.{posted_slip, posted_cells}
 use Rattle.house_rules.specs.State.House.{Cells, fresh, station_at, sheet_at}
 use Rattle.house_rules.specs.Calls.Take.{took_station, late_station, arrives, arrives_late}
 use Rattle.house_rules.specs.Calls.Turn.{turned_station, turns}
-use Rattle.house_rules.proofs.Invariant.PlainSteps.{get_or-put, put_own, same_view, find_push, find_less}
+use Rattle.house_rules.proofs.Invariant.PlainSteps.{same_view, find_push, find_less}
 use Rattle.house_rules.proofs.Lists.Slips.{Distinct}
-use Rattle.house_rules.proofs.Invariant.PlainHouse.{View, Acts, Numbered, enters', posts', takes'}
+use Rattle.house_rules.proofs.Invariant.PlainHouse.{View, Acts, Numbered, enter', post', take'}
+use Rattle.house_rules.proofs.Lists.Puts.{get_or-put, put_own, put_ap}
 
 -- the cells as the plain house sees them
 abbrev pub cells_view : Cells → View
-cells_view h = record { sheet = λ s. sheet_at h s; posted = λ s. (station_at h s).posted; slips = λ a b. find a b (slips_of h.tray) }
+cells_view cells = record { sheet = λ s. sheet_at cells s; posted = λ s. (station_at cells s).posted; slips = λ a b. find a b (slips_of cells.tray) }
 
 -- 1 to 64 stations, and as many sheets, recorded sheets and stations
-pub record Shape (h : Cells) : Type 0 where
-  pub some' : 0 < h.n
-  pub few : h.n ≤ 64
-  pub sheets : length h.sheets ≡ h.n
-  pub recorded : length h.recorded ≡ h.n
-  pub stations : length h.stations ≡ h.n
-
-pub put_ap : {X Y : Type 0} (g : X → Y) (f : ℕ → X) (s : ℕ) (v : X) (t : ℕ) → g (put f s v t) ≡ put (λ t. g (f t)) s (g v) t
-put_ap g f s v t = go (eqb t s)
-  where
-    go : (b : Bool) → g (cond b v (f t)) ≡ cond b (g v) (g (f t))
-    go true = refl
-    go false = refl
+pub record Shape (cells : Cells) : Type 0 where
+  pub some' : 0 < cells.n
+  pub few : cells.n ≤ 64
+  pub sheets : length cells.sheets ≡ cells.n
+  pub recorded : length cells.recorded ≡ cells.n
+  pub stations : length cells.stations ≡ cells.n
 
 -- a field of the stations, after one station has changed
 pub field_put : {Y : Type 0} (g : Station → Y) (l : List Station) (s : ℕ) (v : Station) → s < length l → (λ t. g (get_or (set l s v) t fresh)) ≡ put (λ t. g (get_or l t fresh)) s (g v)
@@ -63,66 +57,66 @@ slips_less a b (x ∷ xs) = let ih = slips_less a b xs in go (named a b x.slip) 
 pub slips_push : (xs : List ColouredSlip) (x : ColouredSlip) → slips_of (xs ++ x ∷ []) ≡ slips_of xs ++ x.slip ∷ []
 slips_push xs x = map-append (λ (y : ColouredSlip). y.slip) xs (x ∷ [])
 
-module _ (r : Rule) (h : Cells) (sh : Shape h) where
-  pub enter_acts : (s a b : ℕ) (code : ℤ) → s < h.n → all_yes (r.entry (sheet_at h s) a b code) ≡ true → Acts h.n r (cells_view h) (enters' s a b code) (cells_view (entered_cells r h s a b code))
+module _ (r : Rule) (cells : Cells) (sh : Shape cells) where
+  pub enter_acts : (s a b : ℕ) (code : ℤ) → s < cells.n → all_yes (r.entry (sheet_at cells s) a b code) ≡ true → Acts cells.n r (cells_view cells) (enter' s a b code) (cells_view (entered_cells r cells s a b code))
   enter_acts s a b code lt yes' =
       record {
         within = lt;
         fit = tt;
         grant = yes';
-        sheet = get_or-put h.sheets s _ [] (rw sh.sheets lt);
-        posted = sym (put_own (λ t. (station_at h t).posted) s);
+        sheet = get_or-put cells.sheets s _ [] (rw sh.sheets lt);
+        posted = sym (put_own (λ t. (station_at cells t).posted) s);
         slips = refl;
       }
 
-  pub fresh_name : Numbered (cells_view h) → (s : ℕ) → find s ((station_at h s).posted + 1) (slips_of h.tray) ≡ None
-  fresh_name given s = go (find s ((station_at h s).posted + 1) (slips_of h.tray)) refl
+  pub fresh_name : Numbered (cells_view cells) → (s : ℕ) → find s ((station_at cells s).posted + 1) (slips_of cells.tray) ≡ None
+  fresh_name given s = go (find s ((station_at cells s).posted + 1) (slips_of cells.tray)) refl
     where
-      go : (o : Option Slip) → find s ((station_at h s).posted + 1) (slips_of h.tray) ≡ o → o ≡ None
+      go : (o : Option Slip) → find s ((station_at cells s).posted + 1) (slips_of cells.tray) ≡ o → o ≡ None
       go None k = refl
-      go (Some x) k = let l = given s ((station_at h s).posted + 1) x k in absurd (omega arith)
+      go (Some x) k = let l = given s ((station_at cells s).posted + 1) x k in absurd (omega arith)
 
-  pub post_acts : Numbered (cells_view h) → (s to line : ℕ) (amount : ℤ) → s < h.n → to < h.n → all_yes (r.debit (sheet_at h s) line amount) ≡ true → Acts h.n r (cells_view h) (posts' (posted_slip h s to line amount)) (cells_view (posted_cells h s to line amount))
+  pub post_acts : Numbered (cells_view cells) → (s to line : ℕ) (amount : ℤ) → s < cells.n → to < cells.n → all_yes (r.debit (sheet_at cells s) line amount) ≡ true → Acts cells.n r (cells_view cells) (post' (posted_slip cells s to line amount)) (cells_view (posted_cells cells s to line amount))
   post_acts p s to line amount lt lr yes' =
       record {
         within = lt;
         fit = (refl, lr);
         grant = yes';
-        sheet = get_or-put h.sheets s _ [] (rw sh.sheets lt);
-        posted = field_put (λ t. t.posted) h.stations s _ (rw sh.stations lt);
+        sheet = get_or-put cells.sheets s _ [] (rw sh.sheets lt);
+        posted = field_put (λ t. t.posted) cells.stations s _ (rw sh.stations lt);
         slips =
-            ap (λ l a b. find a b l) (slips_push h.tray (record { slip = posted_slip h s to line amount; colour = (station_at h s).colour }))
-            ∙ find_push (slips_of h.tray) (posted_slip h s to line amount) (fresh_name p s);
+            ap (λ l a b. find a b l) (slips_push cells.tray (record { slip = posted_slip cells s to line amount; colour = (station_at cells s).colour }))
+            ∙ find_push (slips_of cells.tray) (posted_slip cells s to line amount) (fresh_name p s);
       }
 
-  pub turn_view : (s : ℕ) → s < h.n → cells_view (turns h s) ≡ cells_view h
-  turn_view s lt = same_view (cells_view (turns h s)) (cells_view h) refl (field_kept (λ t. t.posted) h.stations s (turned_station (station_at h s)) (rw sh.stations lt) refl) refl
+  pub turn_view : (s : ℕ) → s < cells.n → cells_view (turns cells s) ≡ cells_view cells
+  turn_view s lt = same_view (cells_view (turns cells s)) (cells_view cells) refl (field_kept (λ t. t.posted) cells.stations s (turned_station (station_at cells s)) (rw sh.stations lt) refl) refl
 
-  pub turn_shape : (s : ℕ) → s < h.n → Shape (turns h s)
-  turn_shape s lt = record { some' = sh.some'; few = sh.few; sheets = sh.sheets; recorded = length-set h.recorded s _ ∙ sh.recorded; stations = length-set h.stations s _ ∙ sh.stations }
+  pub turn_shape : (s : ℕ) → s < cells.n → Shape (turns cells s)
+  turn_shape s lt = record { some' = sh.some'; few = sh.few; sheets = sh.sheets; recorded = length-set cells.recorded s _ ∙ sh.recorded; stations = length-set cells.stations s _ ∙ sh.stations }
 
-  module _ (x : ColouredSlip) (apart : Distinct (slips_of h.tray)) (has : find x.slip.sender x.slip.number (slips_of h.tray) ≡ Some x.slip) (lt : x.slip.receiver < h.n) (yes' : all_yes (r.credit (sheet_at h x.slip.receiver) x.slip.line x.slip.amount) ≡ true) where
-    less_slips : (λ (a b : ℕ). find a b (slips_of (without_coloured x.slip.sender x.slip.number h.tray))) ≡ put_slip (λ a b. find a b (slips_of h.tray)) x.slip.sender x.slip.number None
-    less_slips = ap (λ l a b. find a b l) (slips_less x.slip.sender x.slip.number h.tray) ∙ find_less (slips_of h.tray) x.slip.sender x.slip.number apart
+  module _ (x : ColouredSlip) (apart : Distinct (slips_of cells.tray)) (has : find x.slip.sender x.slip.number (slips_of cells.tray) ≡ Some x.slip) (lt : x.slip.receiver < cells.n) (yes' : all_yes (r.credit (sheet_at cells x.slip.receiver) x.slip.line x.slip.amount) ≡ true) where
+    less_slips : (λ (a b : ℕ). find a b (slips_of (without_coloured x.slip.sender x.slip.number cells.tray))) ≡ put_slip (λ a b. find a b (slips_of cells.tray)) x.slip.sender x.slip.number None
+    less_slips = ap (λ l a b. find a b l) (slips_less x.slip.sender x.slip.number cells.tray) ∙ find_less (slips_of cells.tray) x.slip.sender x.slip.number apart
 
-    pub late_acts : Acts h.n r (cells_view h) (takes' x.slip) (cells_view (arrives_late h x))
+    pub late_acts : Acts cells.n r (cells_view cells) (take' x.slip) (cells_view (arrives_late cells x))
     late_acts =
         record {
           within = lt;
           fit = has;
           grant = yes';
-          sheet = get_or-put h.sheets x.slip.receiver _ [] (rw sh.sheets lt);
-          posted = field_put (λ t. t.posted) h.stations x.slip.receiver (late_station (station_at h x.slip.receiver)) (rw sh.stations lt);
+          sheet = get_or-put cells.sheets x.slip.receiver _ [] (rw sh.sheets lt);
+          posted = field_put (λ t. t.posted) cells.stations x.slip.receiver (late_station (station_at cells x.slip.receiver)) (rw sh.stations lt);
           slips = less_slips;
         }
 
-    pub take_acts : Acts h.n r (cells_view h) (takes' x.slip) (cells_view (arrives h x))
+    pub take_acts : Acts cells.n r (cells_view cells) (take' x.slip) (cells_view (arrives cells x))
     take_acts =
         record {
           within = lt;
           fit = has;
           grant = yes';
-          sheet = get_or-put h.sheets x.slip.receiver _ [] (rw sh.sheets lt);
-          posted = field_put (λ t. t.posted) h.stations x.slip.receiver (took_station (station_at h x.slip.receiver)) (rw sh.stations lt);
+          sheet = get_or-put cells.sheets x.slip.receiver _ [] (rw sh.sheets lt);
+          posted = field_put (λ t. t.posted) cells.stations x.slip.receiver (took_station (station_at cells x.slip.receiver)) (rw sh.stations lt);
           slips = less_slips;
         }

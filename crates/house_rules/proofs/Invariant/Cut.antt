@@ -9,15 +9,16 @@ use Rattle.sections.specs.Rule.{Rule}
 use Rattle.house_rules.specs.declared.slip.Slip.{Slip}
 use Rattle.house_rules.specs.Theorem.Cut.{put}
 use Rattle.house_rules.specs.State.Names.{same_name, find}
-use Rattle.house_rules.specs.Theorem.PlainHouse.{Event}
 use Rattle.house_rules.proofs.Lists.Slips.{same_name_true, or_else}
-use Rattle.house_rules.proofs.Invariant.PlainHouse.{View, FullEvent, event_of, actor, changed, placed, Acts, Acted, Numbered, put_same, put_other, Free, numbered_acted, acted_push, moves, enters', posts', takes'}
+use Rattle.house_rules.proofs.Invariant.PlainHouse.{View, FullEvent, event_of, actor, changed, placed, Acts, Acted, Numbered, Free, numbered_acted, acted_push, moves, enter', post', take'}
+use Rattle.house_rules.specs.Calls.Event.{Event}
+use Rattle.house_rules.proofs.Lists.Puts.{put_same, put_other}
 
 -- a slip that is posted after the cut is new
 abbrev pub Fresh : (ℕ → ℕ → Bool) → FullEvent → Type 0
-Fresh new (enters' s a b code) = Unit {0}
-Fresh new (posts' x) = new x.sender x.number ≡ true
-Fresh new (takes' x) = Unit {0}
+Fresh new (enter' s a b code) = Unit {0}
+Fresh new (post' x) = new x.sender x.number ≡ true
+Fresh new (take' x) = Unit {0}
 
 -- what lay under way at the cut
 abbrev pub pending : (ℕ → ℕ → Bool) → (ℕ → ℕ → Option Slip) → List Slip → ℕ → ℕ → Option Slip
@@ -47,15 +48,15 @@ all_both P Q (x ∷ xs) p q = ((p.0, q.0), all_both P Q xs p.1 q.1)
 
 -- the event takes nothing that is new
 abbrev pub Old : (ℕ → ℕ → Bool) → FullEvent → Type 0
-Old new (enters' s a b code) = Unit {0}
-Old new (posts' x) = Unit {0}
-Old new (takes' x) = new x.sender x.number ≡ false
+Old new (enter' s a b code) = Unit {0}
+Old new (post' x) = Unit {0}
+Old new (take' x) = new x.sender x.number ≡ false
 
 pub free : (new : ℕ → ℕ → Bool) (d e : FullEvent) → Fresh new d → Old new e → Free d e
-free new (enters' s a b code) e f o = tt
-free new (posts' x) (enters' s a b code) f o = tt
-free new (posts' x) (posts' y) f o = tt
-free new (posts' x) (takes' y) f o = go (same_name x.sender x.number y.sender y.number) refl
+free new (enter' s a b code) e f o = tt
+free new (post' x) (enter' s a b code) f o = tt
+free new (post' x) (post' y) f o = tt
+free new (post' x) (take' y) f o = go (same_name x.sender x.number y.sender y.number) refl
   where
     go : (t : Bool) → same_name x.sender x.number y.sender y.number ≡ t → t ≡ false
     go false t = refl
@@ -63,12 +64,12 @@ free new (posts' x) (takes' y) f o = go (same_name x.sender x.number y.sender y.
         let q = same_name_true x.sender x.number y.sender y.number t in
         let o' : new x.sender x.number ≡ false = rw (q.0, q.1) at o in
         let z : ◌≡◌ {A = ℕ} 0 1 = cc in absurd (omega arith)
-free new (takes' x) e f o = tt
+free new (take' x) e f o = tt
 
 pub fresh_still : (new new' : ℕ → ℕ → Bool) (d : FullEvent) → ((a b : ℕ) → new a b ≡ true → new' a b ≡ true) → Fresh new d → Fresh new' d
-fresh_still new new' (enters' s a b code) h f = tt
-fresh_still new new' (posts' x) h f = h x.sender x.number f
-fresh_still new new' (takes' x) h f = tt
+fresh_still new new' (enter' s a b code) h f = tt
+fresh_still new new' (post' x) h f = h x.sender x.number f
+fresh_still new new' (take' x) h f = tt
 
 module _ (n : ℕ) (r : Rule) (start : View) (recorded : ℕ → List ℤ) (v : View) (late : List Slip) (turned : ℕ → Bool) (new : ℕ → ℕ → Bool) (pre post : List Event) (sp : Split n r start recorded v late turned new pre post) where
   pub split_turn : (s : ℕ) → turned s ≡ false → Split n r start (put recorded s (v.sheet s)) v late (put turned s true) new pre post

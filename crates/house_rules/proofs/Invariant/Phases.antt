@@ -1,4 +1,4 @@
--- What a phase test says of the phase.
+-- What a phase test says of the phase; for every call's proof.
 use Rattle.std.proofs.Common.{◌≡◌, ℕ, true, refl, arith}
 use Rattle.house_rules.specs.declared.phase.Phase.{Phase}
 use Rattle.house_rules.specs.declared.phase.Phase.TheVariants.{Ready, Counting, Closed}

@@ -1,25 +1,27 @@
--- Events that act on the view of a plain house are steps of the plain house, and keep what it holds of each line.
+-- Events that act on the view of a plain house are its steps, and keep what it holds of each line; for the plain runs.
 use Rattle.std.proofs.Common.{◌≡◌, ℕ, ◌+◌, ◌<◌, Bool, true, false, cond, eqb, List, [], ◌∷◌, ◌++◌, map, length, get_or, set, ℤ, ◌+ℤ◌, is_some, Some, None, Option, sym, refl, ap, ◌∙◌, subst, arith}
 use mathlib.Core.Path.{fun_ext}
-use Rattle.std.proofs.lemmas.List.{length-set, get_or-set_same, get_or-set_other}
+use Rattle.std.proofs.lemmas.List.{length-set}
 use Rattle.std.proofs.lemmas.Int.{ints}
-use Rattle.std.proofs.lemmas.Bool.{eqb-true, eqb-false, lt-ltb}
+use Rattle.std.proofs.lemmas.Bool.{lt-ltb}
 use Rattle.std.proofs.lemmas.Bool.Decides.{nat_tests}
 use Rattle.sections.specs.Rule.{Rule, figure_at, entered, debited, credited}
 use Rattle.house_rules.specs.declared.slip.Slip.{Slip}
 use Rattle.common.specs.Sums.{sum_of}
 use Rattle.sections.specs.Sums.{line_sum}
 use Rattle.house_rules.specs.Calls.CountText.{on_slip, on_slips}
-use Rattle.house_rules.specs.Theorem.Cut.{put, put_slip}
+use Rattle.house_rules.specs.Theorem.Cut.{put_slip}
 use Rattle.house_rules.specs.State.Names.{same_name, find, without}
-use Rattle.house_rules.specs.Theorem.PlainHouse.{PlainHouse, Event, plain_step, or_stays, plain_run, RefusesNone}
+use Rattle.house_rules.specs.Theorem.PlainHouse.{PlainHouse, plain_step, or_stays, plain_run, RefusesNone}
 use Rattle.house_rules.specs.Theorem.Statements.{gain_of}
 use Rattle.sections.proofs.Gains.{length-entered, figure_entered}
 use Rattle.house_rules.proofs.Lists.Figures.{figure_debited, figure_credited}
 use Rattle.house_rules.proofs.Lists.Slips.{same_name_refl, same_name_true, find_append, Distinct, find_without, distinct_without, distinct_push}
 use Rattle.common.proofs.Sums.{sum_push}
 use Rattle.house_rules.proofs.Lists.Sums.{sum_set, sum_without}
-use Rattle.house_rules.proofs.Invariant.PlainHouse.{View, FullEvent, event_of, changed, Acts, Acted, Numbered, numbered_acts, enters', posts', takes'}
+use Rattle.house_rules.proofs.Invariant.PlainHouse.{View, FullEvent, event_of, changed, Acts, Acted, Numbered, numbered_acts, enter', post', take'}
+use Rattle.house_rules.specs.Calls.Event.{Event}
+use Rattle.house_rules.proofs.Lists.Puts.{put_own, get_or-put}
 
 abbrev pub plain_view : PlainHouse → View
 plain_view p = record { sheet = λ s. get_or p.sheets s []; posted = λ s. get_or p.posted s 0; slips = λ a b. find a b p.under_way }
@@ -31,16 +33,6 @@ pub record Fine (n : ℕ) (p : PlainHouse) : Type 0 where
   pub distinct : Distinct p.under_way
   pub numbered : Numbered (plain_view p)
   pub wide : (s : ℕ) → s < n → length (get_or p.sheets s []) ≡ 32
-
-pub get_or-put : {X : Type 0} (l : List X) (i : ℕ) (a d : X) → i < length l → (λ t. get_or (set l i a) t d) ≡ put (λ t. get_or l t d) i a
-get_or-put {X} l i a d h = fun_ext (λ t. go t (eqb t i) refl)
-  where
-    go : (t : ℕ) (b : Bool) → eqb t i ≡ b → get_or (set l i a) t d ≡ put (λ s. get_or l s d) i a t
-    go t true e = rw e (let k = eqb-true t i e in rw k (get_or-set_same l i a d h))
-    go t false e = rw e (get_or-set_other l i t a d (eqb-false t i e))
-
-pub put_own : {X : Type 0} (f : ℕ → X) (s : ℕ) → put f s (f s) ≡ f
-put_own f s = fun_ext (λ t. grind (arith, nat_tests))
 
 pub same_view : (v w : View) → v.sheet ≡ w.sheet → v.posted ≡ w.posted → v.slips ≡ w.slips → v ≡ w
 same_view v w p q m = λ i. record { sheet = p i; posted = q i; slips = m i }
@@ -87,9 +79,9 @@ abbrev pub held : ℕ → PlainHouse → ℤ
 held line p = line_sum (λ (f : List ℤ). f) line p.sheets +ℤ on_slips line p.under_way
 
 pub length-changed : (r : Rule) (d : FullEvent) (f : List ℤ) → length (changed r d f) ≡ length f
-length-changed r (enters' s a b code) f = length-entered f (r.gain a b code)
-length-changed r (posts' x) f = length-set f x.line _
-length-changed r (takes' x) f = length-set f x.line _
+length-changed r (enter' s a b code) f = length-entered f (r.gain a b code)
+length-changed r (post' x) f = length-set f x.line _
+length-changed r (take' x) f = length-set f x.line _
 
 pub wide_put : (n : ℕ) (r : Rule) (d : FullEvent) (sheets : List (List ℤ)) (s : ℕ) → s < length sheets → s < n → ((t : ℕ) → t < n → length (get_or sheets t []) ≡ 32) → (t : ℕ) → t < n → length (get_or (set sheets s (changed r d (get_or sheets s []))) t []) ≡ 32
 wide_put n r d sheets s l sn w t lt = ap (λ f. length (f t)) (get_or-put sheets s (changed r d (get_or sheets s [])) [] l) ∙ go (eqb t s)
@@ -99,7 +91,7 @@ wide_put n r d sheets s l sn w t lt = ap (λ f. length (f t)) (get_or-put sheets
     go false = w t lt
 
 pub plays_one : (n : ℕ) (r : Rule) (p : PlainHouse) (d : FullEvent) (w : View) → Fine n p → Acts n r (plain_view p) d w → (q : PlainHouse) × (plain_step r p (event_of d) ≡ Some q) × (plain_view q ≡ w) × Fine n q × ((line : ℕ) → line < 32 → held line q ≡ held line p +ℤ gain_of r line (event_of d))
-plays_one n r p (enters' s a b code) w f h =
+plays_one n r p (enter' s a b code) w f h =
     let lt : s < length p.sheets = rw f.sheets h.within in
     let new = entered (get_or p.sheets s []) (r.gain a b code) in
     let q : PlainHouse = record { sheets = set p.sheets s new; posted = p.posted; under_way = p.under_way } in
@@ -107,10 +99,10 @@ plays_one n r p (enters' s a b code) w f h =
       q,
       rw (lt-ltb s (length p.sheets) lt, h.grant),
       v,
-      record { sheets = length-set p.sheets s new ∙ f.sheets; posted = f.posted; distinct = f.distinct; numbered = subst Numbered (sym v) (numbered_acts n r (plain_view p) w (enters' s a b code) f.numbered h); wide = wide_put n r (enters' s a b code) p.sheets s lt h.within f.wide },
+      record { sheets = length-set p.sheets s new ∙ f.sheets; posted = f.posted; distinct = f.distinct; numbered = subst Numbered (sym v) (numbered_acts n r (plain_view p) w (enter' s a b code) f.numbered h); wide = wide_put n r (enter' s a b code) p.sheets s lt h.within f.wide },
       λ line short. let g = figure_entered (get_or p.sheets s []) (r.gain a b code) line (rw (f.wide s h.within) short) in let m = sum_set (λ f. figure_at f line) p.sheets s new [] lt in omega (arith, ints),
     )
-plays_one n r p (posts' x) w f h =
+plays_one n r p (post' x) w f h =
     let lt : x.sender < length p.sheets = rw f.sheets h.within in
     let lr : x.receiver < length p.sheets = rw f.sheets h.fit.1 in
     let lp : x.sender < length p.posted = rw f.posted h.within in
@@ -121,10 +113,10 @@ plays_one n r p (posts' x) w f h =
       q,
       rw (lt-ltb x.sender (length p.sheets) lt, lt-ltb x.receiver (length p.sheets) lr, h.grant) (ap (λ k. Some (record { sheets = set p.sheets x.sender new; posted = set p.posted x.sender (get_or p.posted x.sender 0 + 1); under_way = p.under_way ++ (record { sender = x.sender; number = k; receiver = x.receiver; line = x.line; amount = x.amount } ∷ []) })) (sym h.fit.0)),
       v,
-      record { sheets = length-set p.sheets x.sender new ∙ f.sheets; posted = length-set p.posted x.sender _ ∙ f.posted; distinct = distinct_push p.under_way x f.distinct nn; numbered = subst Numbered (sym v) (numbered_acts n r (plain_view p) w (posts' x) f.numbered h); wide = wide_put n r (posts' x) p.sheets x.sender lt h.within f.wide },
+      record { sheets = length-set p.sheets x.sender new ∙ f.sheets; posted = length-set p.posted x.sender _ ∙ f.posted; distinct = distinct_push p.under_way x f.distinct nn; numbered = subst Numbered (sym v) (numbered_acts n r (plain_view p) w (post' x) f.numbered h); wide = wide_put n r (post' x) p.sheets x.sender lt h.within f.wide },
       λ line short. let g = figure_debited (get_or p.sheets x.sender []) x.line x.amount line (rw (f.wide x.sender h.within) short) in let m = sum_set (λ f. figure_at f line) p.sheets x.sender new [] lt in let k = sum_push (on_slip line) p.under_way x in omega (arith, ints),
     )
-plays_one n r p (takes' x) w f h =
+plays_one n r p (take' x) w f h =
     let lt : x.receiver < length p.sheets = rw f.sheets h.within in
     let new = credited (get_or p.sheets x.receiver []) x.line x.amount in
     let q : PlainHouse = record { sheets = set p.sheets x.receiver new; posted = p.posted; under_way = without x.sender x.number p.under_way } in
@@ -132,7 +124,7 @@ plays_one n r p (takes' x) w f h =
       q,
       rw (h.fit, h.grant),
       v,
-      record { sheets = length-set p.sheets x.receiver new ∙ f.sheets; posted = f.posted; distinct = distinct_without x.sender x.number p.under_way f.distinct; numbered = subst Numbered (sym v) (numbered_acts n r (plain_view p) w (takes' x) f.numbered h); wide = wide_put n r (takes' x) p.sheets x.receiver lt h.within f.wide },
+      record { sheets = length-set p.sheets x.receiver new ∙ f.sheets; posted = f.posted; distinct = distinct_without x.sender x.number p.under_way f.distinct; numbered = subst Numbered (sym v) (numbered_acts n r (plain_view p) w (take' x) f.numbered h); wide = wide_put n r (take' x) p.sheets x.receiver lt h.within f.wide },
       λ line short. let g = figure_credited (get_or p.sheets x.receiver []) x.line x.amount line (rw (f.wide x.receiver h.within) short) in let m = sum_set (λ f. figure_at f line) p.sheets x.receiver new [] lt in let k = sum_without (on_slip line) x.sender x.number x p.under_way h.fit in omega (arith, ints),
     )
 

@@ -10,7 +10,7 @@ use Rattle.house_rules.specs.declared.slip.ColouredSlip.{ColouredSlip}
 use Rattle.house_rules.specs.declared.slip.Slip.{Slip}
 use Rattle.house_rules.specs.Theorem.Cut.{Cut}
 use Rattle.house_rules.specs.State.Names.{find, slips_of}
-use Rattle.house_rules.specs.Theorem.PlainHouse.{Event, blank}
+use Rattle.house_rules.specs.Theorem.PlainHouse.{blank}
 use Rattle.house_rules.specs.State.House.{Cells, station_at}
 use Rattle.house_rules.proofs.Invariant.Deficits.{Balance}
 use Rattle.house_rules.proofs.Invariant.Colours.{Colouring}
@@ -20,6 +20,7 @@ use Rattle.house_rules.proofs.Invariant.PlainSteps.{plain_view}
 use Rattle.house_rules.proofs.Invariant.Cut.{Split}
 use Rattle.house_rules.proofs.Lists.Totals.{sum_z, count}
 use Rattle.house_rules.proofs.Invariant.PlainHouse.{View, FullEvent, event_of, Acted}
+use Rattle.house_rules.specs.Calls.Event.{Event}
 
 abbrev pub start_view : ℕ → View
 start_view n = plain_view (blank n)
@@ -46,13 +47,13 @@ abbrev pub Tree : ℕ → (ℕ → Bool) → (ℕ → Bool) → Type 0
 Tree n G turned = (s : ℕ) → s < n → G s ≡ true → (turned s ≡ true) × (2 * s + 1 < n → G (2 * s + 1) ≡ true) × (2 * s + 2 < n → G (2 * s + 2) ≡ true)
 
 -- while a count is open: colours, both parts of the cut, deficits and marks agree with the cells, and what is new was posted
-pub record During (r : Rule) (c : Cut) (h : Cells) (out : ℕ) : Type 0 where
+pub record During (r : Rule) (c : Cut) (cells : Cells) (out : ℕ) : Type 0 where
   pub base : Colour
-  pub colouring : Colouring h.n base (λ s. (station_at h s).turned) (λ s. (station_at h s).colour) h.tray (slips_of h.late) c.turned c.new
-  pub split : Split h.n r (start_view h.n) (λ s. get_or h.recorded s []) (cells_view h) (slips_of h.late) c.turned c.new c.before c.after
-  pub balance : Balance h.n (λ s. (station_at h s).running) (λ s. (station_at h s).frozen) (λ s. (station_at h s).unreported) (station_at h 0).gathered out (count (λ a b. not (c.new a b)) h.tray) (count c.new h.tray) (length h.late) c.turned
-  pub tree : Tree h.n (λ s. (station_at h s).gathered) c.turned
-  pub given : (a b : ℕ) → c.new a b ≡ true → b ≤ (station_at h a).posted
+  pub colouring : Colouring cells.n base (λ s. (station_at cells s).turned) (λ s. (station_at cells s).colour) cells.tray (slips_of cells.late) c.turned c.new
+  pub split : Split cells.n r (start_view cells.n) (λ s. get_or cells.recorded s []) (cells_view cells) (slips_of cells.late) c.turned c.new c.before c.after
+  pub balance : Balance cells.n (λ s. (station_at cells s).running) (λ s. (station_at cells s).frozen) (λ s. (station_at cells s).unreported) (station_at cells 0).gathered out (count (λ a b. not (c.new a b)) cells.tray) (count c.new cells.tray) (length cells.late) c.turned
+  pub tree : Tree cells.n (λ s. (station_at cells s).gathered) c.turned
+  pub given : (a b : ℕ) → c.new a b ≡ true → b ≤ (station_at cells a).posted
 
 -- one thing between counts, another while a count is open
 abbrev pub ByPhase : Phase → Type 0 → Type 0 → Type 0
@@ -60,10 +61,10 @@ ByPhase Ready A B = A
 ByPhase Counting A B = B
 ByPhase Closed A B = A
 
-pub record Sound (r : Rule) (c : Cut) (p : Phase) (h : Cells) (out : ℕ) : Type 0 where
-  pub shape : Shape h
-  pub common : Common h.n r c.all c.posted c.receiver (cells_view h) (slips_of h.tray) (slips_of h.late)
-  pub state : ByPhase p (Between h.n (λ s. (station_at h s).colour) (λ s. (station_at h s).running) h.tray) (During r c h out)
+pub record Sound (r : Rule) (c : Cut) (p : Phase) (cells : Cells) (out : ℕ) : Type 0 where
+  pub shape : Shape cells
+  pub common : Common cells.n r c.all c.posted c.receiver (cells_view cells) (slips_of cells.tray) (slips_of cells.late)
+  pub state : ByPhase p (Between cells.n (λ s. (station_at cells s).colour) (λ s. (station_at cells s).running) cells.tray) (During r c cells out)
 
 -- The gathered stations
 

@@ -12,21 +12,21 @@ use Rattle.house_rules.proofs.Invariant.Cells.{field_kept}
 use Rattle.house_rules.proofs.Invariant.Sound.{Sound}
 
 -- tray and late list are within their cells
-pub record Room (h : Cells) : Type 0 where
-  pub tray_cells_lem : h.tray_cells ≤ 4096
-  pub late_cells_lem : h.late_cells ≤ 4096
-  pub tray : length h.tray ≤ h.tray_cells
-  pub late : length h.late ≤ h.late_cells
+pub record Room (cells : Cells) : Type 0 where
+  pub tray_cells_lem : cells.tray_cells ≤ 4096
+  pub late_cells_lem : cells.late_cells ≤ 4096
+  pub tray : length cells.tray ≤ cells.tray_cells
+  pub late : length cells.late ≤ cells.late_cells
 
 -- the method has begun for the open count
 abbrev pub begun? : Phase → Cells → Bool
-begun? p h = is_counting p && (station_at h 0).gathered
+begun? p cells = is_counting p && (station_at cells 0).gathered
 
 -- the method is in a state of its kind; it is idle unless it has begun, and then it counts the stations of the house
-pub record Served (m : Model) (p : Phase) (h : Cells) (q : m.State) : Type 0 where
+pub record Served (m : Model) (p : Phase) (cells : Cells) (q : m.State) : Type 0 where
   pub valid : m.Valid q
-  pub idle : begun? p h ≡ false → m.rules.outstanding q ≡ 0
-  pub counted : begun? p h ≡ true → m.rules.stations q ≡ h.n
+  pub idle : begun? p cells ≡ false → m.rules.outstanding q ≡ 0
+  pub counted : begun? p cells ≡ true → m.rules.stations q ≡ cells.n
 
 pub record Holds (m : Model) (rule : Rule) (c : Cut) (x : HouseState m.State) : Type 0 where
   pub sound : Sound rule c x.phase x.cells (m.rules.outstanding x.method)
@@ -46,5 +46,5 @@ length-less a b (x ∷ xs) = let ih = length-less a b xs in go (named a b x.slip
     go false ih = omega arith
 
 -- the mark of the root stays where one station changes and keeps its own
-pub root_kept : (h : Cells) (s : ℕ) (st : Station) → s < length h.stations → st.gathered ≡ (station_at h s).gathered → (get_or (set h.stations s st) 0 fresh).gathered ≡ (station_at h 0).gathered
-root_kept h s st l e = ap (λ f. f 0) (field_kept (λ t. t.gathered) h.stations s st l e)
+pub root_kept : (cells : Cells) (s : ℕ) (st : Station) → s < length cells.stations → st.gathered ≡ (station_at cells s).gathered → (get_or (set cells.stations s st) 0 fresh).gathered ≡ (station_at cells 0).gathered
+root_kept cells s st l e = ap (λ f. f 0) (field_kept (λ t. t.gathered) cells.stations s st l e)

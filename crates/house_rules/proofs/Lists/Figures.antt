@@ -1,4 +1,4 @@
--- The figures of a sheet after a debit or a credit; those after an entry are in the proofs of the sections.
+-- The figures of a sheet after a debit or a credit; for ScoresAreGains.
 use Rattle.std.proofs.Common.{◌≡◌, ℕ, ◌<◌, Bool, true, false, cond, eqb, List, length, get_or, set, ℤ, pos, ◌+ℤ◌, ◌-ℤ◌, sym, refl, ap, subst, arith}
 use Rattle.std.proofs.lemmas.List.{get_or-set_same, get_or-set_other}
 use Rattle.std.proofs.lemmas.Int.{ints}

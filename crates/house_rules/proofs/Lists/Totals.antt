@@ -1,4 +1,4 @@
--- Sums over the stations, counts of slips, and the sum that reaches the root.
+-- Sums over the stations, counts of slips, and the sum that reaches the root; for the deficits and for MessagesAreFew.
 use Rattle.std.proofs.Common.{◌≡◌, ℕ, zero, suc, ◌+◌, ◌*◌, ◌<◌, ◌≤◌, Bool, true, false, cond, not, eqb, List, [], ◌∷◌, ◌++◌, ℤ, pos, ◌+ℤ◌, Some, None, refl, ap, ◌∙◌, arith}
 use Rattle.std.proofs.lemmas.Int.{ints}
 use Rattle.std.proofs.lemmas.Bool.{eqb-true, eqb-false}
@@ -8,7 +8,7 @@ use Rattle.house_rules.specs.declared.slip.Slip.{Slip}
 use Rattle.house_rules.specs.Theorem.Cut.{put}
 use Rattle.house_rules.specs.State.Names.{same_name, named, find, without_coloured, slips_of}
 use Rattle.house_rules.proofs.Lists.Slips.{same_name_true}
-use Rattle.house_rules.proofs.Invariant.PlainHouse.{put_other}
+use Rattle.house_rules.proofs.Lists.Puts.{put_other}
 
 -- over stations 0 to n - 1
 abbrev pub sum_z : (ℕ → ℤ) → ℕ → ℤ

@@ -1,11 +1,11 @@
--- The messages that a house keeps are those that its calls and their answers tell.
+-- CloseTellsTheMessages: the messages that a house keeps are those that its calls and their answers tell.
 use Rattle.std.proofs.Common.{◌≡◌, ℕ, ◌+◌, Bool, true, false, cond, eqb, List, [], ◌∷◌, length, nat_abs, Some, None, Option, sym, refl, ap, ◌∙◌}
 use Rattle.sections.specs.Rule.{Rule}
 use Rattle.methods.specs.Model.{Model}
 use Rattle.common.specs.Questions.{first_no}
 use Rattle.house_rules.specs.declared.phase.Phase.{Phase}
 use Rattle.house_rules.specs.declared.slip.ColouredSlip.{ColouredSlip}
-use Rattle.house_rules.specs.Calls.EveryCall.{Call, questions, after, reply, enter, post, take, open', turn, gather, report, close, file, receipt}
+use Rattle.house_rules.specs.Calls.EveryCall.{Call, questions, after, reply, open', turn, gather, report, close, file, receipt, event}
 use Rattle.house_rules.specs.State.Changes.{with_cells}
 use Rattle.house_rules.specs.Calls.Gather.{sum_at, gathered_cells, root_gathers, after_gather}
 use Rattle.house_rules.specs.Theorem.Messages.{messages_after, messages_by, messages_since, CloseTellsTheMessages}
@@ -13,14 +13,15 @@ use Rattle.house_rules.specs.Theorem.Histories.{outcome, next, run, History}
 use Rattle.house_rules.specs.State.House.{Cells, HouseState}
 use Rattle.house_rules.specs.Calls.Take.{is_late, turns_receiver, arrives, arrives_late, taken_cells, under_way}
 use Rattle.house_rules.specs.Calls.Turn.{turns}
-use Rattle.house_rules.proofs.Statements.CountsAreConsistent.{made_yes}
+use Rattle.house_rules.proofs.Statements.EveryHistory.{made_yes}
 use Rattle.house_rules.proofs.Calls.Outcome.{outcome_answer, step_done}
+use Rattle.house_rules.specs.Calls.Event.{enter, post, take}
 
-taken_sent : (p : Phase) (h : Cells) (o : Option ColouredSlip) → (taken_cells p h o).messages ≡ h.messages
-taken_sent p h None = refl
-taken_sent p h (Some x) = go (is_late p h x) (turns_receiver p h x)
+taken_sent : (p : Phase) (cells : Cells) (o : Option ColouredSlip) → (taken_cells p cells o).messages ≡ cells.messages
+taken_sent p cells None = refl
+taken_sent p cells (Some x) = go (is_late p cells x) (turns_receiver p cells x)
   where
-    go : (a b : Bool) → (cond a (arrives_late h x) (arrives (cond b (turns h x.slip.receiver) h) x)).messages ≡ h.messages
+    go : (a b : Bool) → (cond a (arrives_late cells x) (arrives (cond b (turns cells x.slip.receiver) cells) x)).messages ≡ cells.messages
     go true b = refl
     go false true = refl
     go false false = refl
@@ -34,9 +35,9 @@ module _ (m : Model) (rule : Rule) where
       go false = refl
 
   granted_sent : (x : HouseState m.State) (call : Call) → (after m rule x call).cells.messages ≡ messages_after m x x.cells.messages call (reply m x call)
-  granted_sent x (enter s a b r) = refl
-  granted_sent x (post s to line amount) = refl
-  granted_sent x (take a b) = taken_sent x.phase x.cells (under_way x.cells a b)
+  granted_sent x (event (enter s a b r)) = refl
+  granted_sent x (event (post s to line amount)) = refl
+  granted_sent x (event (take a b)) = taken_sent x.phase x.cells (under_way x.cells a b)
   granted_sent x (open' s) = refl
   granted_sent x (turn s) = refl
   granted_sent x (gather s) = gathered_sent x s

@@ -1,4 +1,4 @@
--- Between a close and the next granted open, record, late list and text stay as they are.
+-- CountsStay: between a close and the next granted open, record, late list and text stay as they are.
 use Rattle.std.proofs.Common.{◌≡◌, ℕ, false, List, [], ◌∷◌, Some, None, Option, refl, ap, ◌∙◌}
 use Rattle.std.proofs.lemmas.Bool.{both_ways}
 use Rattle.std.specs.List.{AllByRecursion}
@@ -7,7 +7,7 @@ use Rattle.methods.specs.Model.{Model}
 use Rattle.common.specs.Questions.{first_no}
 use Rattle.house_rules.specs.declared.phase.Phase.{Phase}
 use Rattle.house_rules.specs.declared.slip.ColouredSlip.{ColouredSlip}
-use Rattle.house_rules.specs.Calls.EveryCall.{Call, house_questions, method_questions, questions, after, reply, enter, post, take, open', turn, gather, report, close, file}
+use Rattle.house_rules.specs.Calls.EveryCall.{Call, house_questions, method_questions, questions, after, reply, open', turn, gather, report, close, file, event}
 use Rattle.house_rules.specs.Calls.CountText.{count_text}
 use Rattle.house_rules.specs.State.Names.{slips_of}
 use Rattle.house_rules.specs.Theorem.Histories.{outcome, next, run, only_done, granted_among}
@@ -15,21 +15,22 @@ use Rattle.house_rules.specs.State.House.{Cells, HouseState, is_counting}
 use Rattle.house_rules.specs.Theorem.Statements.{NotOpen, NotFile, Stays, CountsStay}
 use Rattle.house_rules.specs.Calls.Take.{arrives, arrived, taken_cells, under_way}
 use Rattle.common.proofs.AllYes.{AllYes, all_yes_lem, yes_parts}
+use Rattle.house_rules.specs.Calls.Event.{enter, post, take}
 
 stays : {Q : Type 0} (x y : HouseState Q) → is_counting y.phase ≡ false → y.cells.recorded ≡ x.cells.recorded → y.cells.late ≡ x.cells.late → Stays x y
 stays x y p r l = record { shut = p; recorded = r; late = l; text = ap (λ f. count_text f (slips_of y.cells.late)) r ∙ ap (λ f. count_text x.cells.recorded (slips_of f)) l }
 
-taken_stays : (h : Cells) (p : Phase) (o : Option ColouredSlip) → is_counting p ≡ false → ((taken_cells p h o).recorded ≡ h.recorded) × ((taken_cells p h o).late ≡ h.late)
-taken_stays h p None nc = (refl, refl)
-taken_stays h p (Some x) nc =
-    let way : arrived p h x ≡ arrives h x = rw nc in
+taken_stays : (cells : Cells) (p : Phase) (o : Option ColouredSlip) → is_counting p ≡ false → ((taken_cells p cells o).recorded ≡ cells.recorded) × ((taken_cells p cells o).late ≡ cells.late)
+taken_stays cells p None nc = (refl, refl)
+taken_stays cells p (Some x) nc =
+    let way : arrived p cells x ≡ arrives cells x = rw nc in
     (ap (λ (z : Cells). z.recorded) way, ap (λ (z : Cells). z.late) way)
 
 module _ (m : Model) (rule : Rule) where
   granted_stays : (x : HouseState m.State) (call : Call) → is_counting x.phase ≡ false → NotOpen call → AllYes (house_questions rule x.phase x.cells (m.rules.outstanding x.method) call) → Stays x (after m rule x call) × (NotFile call → (after m rule x call).phase ≡ x.phase)
-  granted_stays x (enter s a b r) e w y = (stays x (after m rule x (enter s a b r)) e refl refl, λ _. refl)
-  granted_stays x (post s to line amount) e w y = (stays x (after m rule x (post s to line amount)) e refl refl, λ _. refl)
-  granted_stays x (take a b) e w y = let t = taken_stays x.cells x.phase (under_way x.cells a b) e in (stays x (after m rule x (take a b)) e t.0 t.1, λ _. refl)
+  granted_stays x (event (enter s a b r)) e w y = (stays x (after m rule x (event (enter s a b r))) e refl refl, λ _. refl)
+  granted_stays x (event (post s to line amount)) e w y = (stays x (after m rule x (event (post s to line amount))) e refl refl, λ _. refl)
+  granted_stays x (event (take a b)) e w y = let t = taken_stays x.cells x.phase (under_way x.cells a b) e in (stays x (after m rule x (event (take a b))) e t.0 t.1, λ _. refl)
   granted_stays x (open' s) e w y = absurd (w s refl)
   granted_stays x (turn s) e w y = absurd (both_ways (is_counting x.phase) e y.1.0)
   granted_stays x (gather s) e w y = absurd (both_ways (is_counting x.phase) e y.1.0)

@@ -1,5 +1,5 @@
--- At a close the messages are at most 1,000 for each late slip, and 1,000 more.
-use Rattle.std.proofs.Common.{◌≡◌, ℕ, ◌+◌, ◌-◌, ◌*◌, ◌<◌, ◌≤◌, Bool, true, false, cond, eqb, List, [], ◌∷◌, map, length, get_or, set, nat_abs, Some, None, Option, sym, refl, ap, ◌∙◌, subst, arith}
+-- MessagesAreFew: at a close the messages are at most 1,000 for each late slip, and 1,000 more.
+use Rattle.std.proofs.Common.{◌≡◌, ℕ, ◌+◌, ◌-◌, ◌*◌, ◌<◌, ◌≤◌, Bool, true, false, cond, eqb, List, map, length, get_or, set, nat_abs, Some, None, Option, sym, refl, ap, ◌∙◌, subst, arith}
 use Rattle.std.proofs.lemmas.List.{length-set, length-map, length_push}
 use Rattle.std.proofs.lemmas.Bool.{eqb-true, eqb-false, ltb-true, and_parts, not-true}
 use Rattle.sections.specs.Rule.{Rule}
@@ -8,37 +8,38 @@ use Rattle.common.specs.Questions.{first_no}
 use Rattle.house_rules.specs.declared.phase.Phase.{Phase}
 use Rattle.house_rules.specs.declared.slip.ColouredSlip.{ColouredSlip}
 use Rattle.house_rules.specs.declared.station.Station.{Station}
-use Rattle.house_rules.specs.Calls.EveryCall.{Call, Answer, house_questions, method_questions, questions, after, reply, enter, post, take, open', turn, gather, report, close, file, nothing, number, sum, sent, receipt, filed}
+use Rattle.house_rules.specs.Calls.EveryCall.{Call, Answer, house_questions, method_questions, questions, after, reply, open', turn, gather, report, close, file, nothing, number, sum, sent, receipt, filed, event}
 use Rattle.house_rules.specs.State.Changes.{with_cells}
-use Rattle.house_rules.specs.Theorem.Cut.{Cut, put, no_cut, cut_after}
+use Rattle.house_rules.specs.Theorem.Cut.{Cut, put}
 use Rattle.house_rules.specs.Calls.Gather.{gather_questions, sum_at, gathered_station, gathered_cells, root_questions, root_gathers, after_gather}
 use Rattle.house_rules.specs.Calls.Make.{Handed, made_cells}
 use Rattle.house_rules.specs.Theorem.Messages.{MessagesAreFew}
 use Rattle.house_rules.specs.Calls.Open.{cleared_station, cleared, opened_cells}
 use Rattle.house_rules.specs.Calls.Post.{posted_station}
 use Rattle.house_rules.specs.Calls.Report.{reported_station}
-use Rattle.house_rules.specs.Theorem.Histories.{outcome, next, run, History}
+use Rattle.house_rules.specs.Theorem.Histories.{History}
 use Rattle.house_rules.specs.State.House.{Cells, HouseState, fresh, station_at}
 use Rattle.house_rules.specs.Calls.Take.{is_late, turns_receiver, took_station, late_station, arrives, arrives_late, taken_cells, under_way}
 use Rattle.house_rules.specs.Calls.Turn.{turned_station, turns}
-use Rattle.common.proofs.AllYes.{AllYes, all_yes_lem, yes_parts}
+use Rattle.common.proofs.AllYes.{AllYes}
 use Rattle.house_rules.proofs.Invariant.Cells.{field_put, field_kept, find_coloured_lem}
 use Rattle.house_rules.proofs.Calls.EveryCall.{can_begin, can_arrive}
-use Rattle.house_rules.proofs.Statements.CountsAreConsistent.{granted_holds, made_yes, made_holds}
+use Rattle.house_rules.proofs.Statements.EveryHistory.{history_keeps}
 use Rattle.house_rules.proofs.Invariant.WholeHouse.{Holds}
 use Rattle.house_rules.proofs.Calls.Outcome.{outcome_answer}
-use Rattle.house_rules.proofs.Calls.OpenGatherReportFile.{mapped}
+use Rattle.house_rules.proofs.Calls.Open.{mapped}
 use Rattle.house_rules.proofs.Lists.Sums.{get_or-same}
 use Rattle.house_rules.proofs.Lists.Totals.{sum_n, sum_n_put, sum_n_none}
-use Rattle.house_rules.proofs.Invariant.PlainHouse.{put_other}
 use Rattle.methods.specs.Model as models
+use Rattle.house_rules.specs.Calls.Event.{enter, post, take}
+use Rattle.house_rules.proofs.Lists.Puts.{put_other}
 
 -- 1,000 for each late slip that is reported, and 1,000 once the root has gathered
 abbrev Few : (n : ℕ) → List Station → (late messages : ℕ) → Type 0
 Few n ts late messages = messages + 1000 * sum_n (λ s. (get_or ts s fresh).unreported) n ≤ 1000 * (late + cond (get_or ts 0 fresh).gathered 1 0)
 
 abbrev FewIn : Cells → Type 0
-FewIn h = Few h.n h.stations (length h.late) h.messages
+FewIn cells = Few cells.n cells.stations (length cells.late) cells.messages
 
 module _ (n : ℕ) (ts : List Station) (late messages : ℕ) (f : Few n ts late messages) (s : ℕ) (l : s < length ts) where
   -- a change of one station that keeps the unreported number and the mark
@@ -86,22 +87,22 @@ module _ (n : ℕ) (ts : List Station) (late messages : ℕ) (f : Few n ts late 
       subst (λ b. messages + 1000 * sum_n (λ t. (get_or (set ts s (gathered_station (get_or ts s fresh))) t fresh).unreported) n ≤ 1000 * (late + cond b 1 0)) (sym eg)
       (subst (λ w. messages + 1000 * sum_n w n ≤ 1000 * (late + cond (get_or ts 0 fresh).gathered 1 0)) (sym eu) f)
 
-taken_few : (p : Phase) (h : Cells) (x : ColouredSlip) → x.slip.receiver < h.n → length h.stations ≡ h.n → FewIn h → FewIn (cond (is_late p h x) (arrives_late h x) (arrives (cond (turns_receiver p h x) (turns h x.slip.receiver) h) x))
-taken_few p h x lt ln f = go (is_late p h x) (turns_receiver p h x)
+taken_few : (p : Phase) (cells : Cells) (x : ColouredSlip) → x.slip.receiver < cells.n → length cells.stations ≡ cells.n → FewIn cells → FewIn (cond (is_late p cells x) (arrives_late cells x) (arrives (cond (turns_receiver p cells x) (turns cells x.slip.receiver) cells) x))
+taken_few p cells x lt ln f = go (is_late p cells x) (turns_receiver p cells x)
   where
-    l : x.slip.receiver < length h.stations
+    l : x.slip.receiver < length cells.stations
     l = rw ln lt
 
-    go : (a b : Bool) → FewIn (cond a (arrives_late h x) (arrives (cond b (turns h x.slip.receiver) h) x))
-    go true b = subst (λ k. Few h.n (set h.stations x.slip.receiver (late_station (station_at h x.slip.receiver))) k h.messages) (sym (length_push h.late x)) (few_late h.n h.stations (length h.late) h.messages f x.slip.receiver l lt)
+    go : (a b : Bool) → FewIn (cond a (arrives_late cells x) (arrives (cond b (turns cells x.slip.receiver) cells) x))
+    go true b = subst (λ k. Few cells.n (set cells.stations x.slip.receiver (late_station (station_at cells x.slip.receiver))) k cells.messages) (sym (length_push cells.late x)) (few_late cells.n cells.stations (length cells.late) cells.messages f x.slip.receiver l lt)
     go false true =
-        let t = few_set h.n h.stations (length h.late) h.messages f x.slip.receiver l (turned_station (station_at h x.slip.receiver)) refl refl in
-        few_set h.n (set h.stations x.slip.receiver (turned_station (station_at h x.slip.receiver))) (length h.late) h.messages t x.slip.receiver (rw (length-set h.stations x.slip.receiver (turned_station (station_at h x.slip.receiver))) l) (took_station (station_at (turns h x.slip.receiver) x.slip.receiver)) refl refl
-    go false false = few_set h.n h.stations (length h.late) h.messages f x.slip.receiver l (took_station (station_at h x.slip.receiver)) refl refl
+        let t = few_set cells.n cells.stations (length cells.late) cells.messages f x.slip.receiver l (turned_station (station_at cells x.slip.receiver)) refl refl in
+        few_set cells.n (set cells.stations x.slip.receiver (turned_station (station_at cells x.slip.receiver))) (length cells.late) cells.messages t x.slip.receiver (rw (length-set cells.stations x.slip.receiver (turned_station (station_at cells x.slip.receiver))) l) (took_station (station_at (turns cells x.slip.receiver) x.slip.receiver)) refl refl
+    go false false = few_set cells.n cells.stations (length cells.late) cells.messages f x.slip.receiver l (took_station (station_at cells x.slip.receiver)) refl refl
 
 module _ (m : Model) (ml : models.Lawful m) (rule : Rule) (c : Cut) (x : HouseState m.State) (k : Holds m rule c x) (f : FewIn x.cells) where
-  abbrev h : Cells
-  h = x.cells
+  abbrev cells : Cells
+  cells = x.cells
 
   below : (s : ℕ) → s < x.cells.n → s < length x.cells.stations
   below s lt = rw k.sound.shape.stations lt
@@ -130,30 +131,19 @@ module _ (m : Model) (ml : models.Lawful m) (rule : Rule) (c : Cut) (x : HouseSt
       few_set x.cells.n (map cleared_station x.cells.stations) 0 0 (rw z (omega arith)) s ls (turned_station (station_at (cleared x.cells) s)) refl refl
 
   granted_few : (call : Call) → AllYes (house_questions rule x.phase x.cells (m.rules.outstanding x.method) call) → AllYes (method_questions m x call) → FewIn (after m rule x call).cells
-  granted_few (enter s a b r) y z = f
-  granted_few (post s to line amount) y z =
+  granted_few (event (enter s a b r)) y z = f
+  granted_few (event (post s to line amount)) y z =
       let q = and_parts _ _ y.0 in
-      few_set h.n h.stations (length h.late) h.messages f s (below s (ltb-true s h.n q.0)) (posted_station (station_at h s)) refl refl
-  granted_few (take a b) y z = take_few a b (under_way h a b) refl
-  granted_few (open' s) y z = open_few s (ltb-true s h.n y.0)
-  granted_few (turn s) y z = few_set h.n h.stations (length h.late) h.messages f s (below s (ltb-true s h.n y.0)) (turned_station (station_at h s)) refl refl
+      few_set cells.n cells.stations (length cells.late) cells.messages f s (below s (ltb-true s cells.n q.0)) (posted_station (station_at cells s)) refl refl
+  granted_few (event (take a b)) y z = take_few a b (under_way cells a b) refl
+  granted_few (open' s) y z = open_few s (ltb-true s cells.n y.0)
+  granted_few (turn s) y z = few_set cells.n cells.stations (length cells.late) cells.messages f s (below s (ltb-true s cells.n y.0)) (turned_station (station_at cells s)) refl refl
   granted_few (gather s) y z = gather_few s y z
   granted_few (report s) y z =
-      let lt = ltb-true s h.n y.0 in
-      few_report h.n h.stations (length h.late) h.messages f s (below s lt) lt (ltb-true 0 (station_at h s).unreported y.1.1.1.0) (m.rules.arrived_sent x.method s) (ml.arrived_few x.method s (can_arrive m ml rule c x k s z))
+      let lt = ltb-true s cells.n y.0 in
+      few_report cells.n cells.stations (length cells.late) cells.messages f s (below s lt) lt (ltb-true 0 (station_at cells s).unreported y.1.1.1.0) (m.rules.arrived_sent x.method s) (ml.arrived_few x.method s (can_arrive m ml rule c x k s z))
   granted_few close y z = f
   granted_few (file late_on_receipt text) y z = f
-
-module _ (m : Model) (ml : models.Lawful m) (rule : Rule) where
-  run_few : (calls : List Call) (c : Cut) (x : HouseState m.State) → Holds m rule c x → FewIn x.cells → FewIn (run m rule x calls).cells
-  run_few [] c x k f = f
-  run_few (call ∷ calls) c x k f = go (first_no (questions m rule x call)) refl (λ c' x' k' f'. run_few calls c' x' k' f')
-    where
-      go : (o : Option (ℕ × ℕ × ℕ)) → first_no (questions m rule x call) ≡ o → ((c' : Cut) (x' : HouseState m.State) → Holds m rule c' x' → FewIn x'.cells → FewIn (run m rule x' calls).cells) → FewIn (run m rule (next x (outcome o (after m rule x call) (reply m x call))) calls).cells
-      go None e ih =
-          let y = yes_parts (house_questions rule x.phase x.cells (m.rules.outstanding x.method) call) (method_questions m x call) (all_yes_lem (questions m rule x call) e) in
-          ih (cut_after c call) (after m rule x call) (granted_holds m ml rule c x call k e) (granted_few m ml rule c x k f call y.0 y.1)
-      go (Some code) e ih = ih c x k f
 
 made_few : (handed : Handed) → FewIn (made_cells handed)
 made_few handed =
@@ -162,10 +152,7 @@ made_few handed =
 
 history_few : (m : Model) → models.Lawful m → (rule : Rule) (x : HouseState m.State) → History m rule x → FewIn x.cells
 history_few m ml rule x history =
-    let g = made_yes m history.handed history.method history.first history.made in
-    let k = made_holds m rule history.handed history.method history.valid g.0 in
-    subst (λ (y : HouseState m.State). FewIn y.cells) history.leads
-    (run_few m ml rule history.calls no_cut history.first (subst (λ y. Holds m rule no_cut y) (sym g.1) k) (subst (λ (y : HouseState m.State). FewIn y.cells) (sym g.1) (made_few history.handed)))
+    history_keeps m ml rule (λ c g x. FewIn x.cells) (λ c g x k f call y z. granted_few m ml rule c x k f call y z) (λ handed q. made_few handed) x history
 
 -- what a receipt tells
 abbrev late_told : Answer → ℕ

@@ -1,5 +1,5 @@
--- Two houses that are made alike but for the method give the same responses and stay alike, messages aside.
-use Rattle.std.proofs.Common.{◌≡◌, ℕ, ◌+◌, Bool, true, false, cond, eqb, List, [], ◌∷◌, map, length, nat_abs, Some, None, Option, sym, refl, ap, ◌∙◌, subst, arith}
+-- MethodsAgree: two houses that are made alike but for the method give the same responses and stay alike, messages aside.
+use Rattle.std.proofs.Common.{◌≡◌, ℕ, Bool, true, false, cond, eqb, List, [], ◌∷◌, map, length, nat_abs, Some, None, Option, sym, refl, ap, ◌∙◌, subst, arith}
 use Rattle.std.proofs.lemmas.Bool.{eqb-true}
 use Rattle.sections.specs.Rule.{Rule}
 use Rattle.methods.specs.Model.{Model}
@@ -7,64 +7,61 @@ use Rattle.common.specs.Questions.{first_no}
 use Rattle.house_rules.specs.declared.phase.Phase.{Phase}
 use Rattle.house_rules.specs.declared.phase.Phase.TheVariants.{Ready, Counting, Closed}
 use Rattle.house_rules.specs.declared.slip.ColouredSlip.{ColouredSlip}
-use Rattle.house_rules.specs.Calls.EveryCall.{Call, Answer, house_questions, method_questions, questions, after, reply, enter, post, take, open', turn, gather, report, close, file, nothing, number, sum, sent, receipt, filed}
+use Rattle.house_rules.specs.Calls.EveryCall.{Call, Answer, house_questions, method_questions, questions, after, reply, open', turn, gather, report, close, file, nothing, sum, sent, receipt, filed, event, event_reply, cells_after_event}
 use Rattle.house_rules.specs.State.Changes.{with_messages, with_cells}
 use Rattle.house_rules.specs.Theorem.Cut.{Cut, no_cut, cut_after}
-use Rattle.house_rules.specs.Calls.Enter.{entered_cells}
 use Rattle.house_rules.specs.Calls.File.{text_of, written_over}
 use Rattle.house_rules.specs.Calls.Gather.{sum_at, gathered_cells, root_questions, root_gathers, after_gather}
 use Rattle.house_rules.specs.Calls.Open.{opened_cells}
-use Rattle.house_rules.specs.Calls.Post.{posted_cells}
 use Rattle.house_rules.specs.Calls.Report.{reported_cells}
 use Rattle.house_rules.specs.Theorem.Histories.{Outcome, outcome, next, run, response_of, responses, refused_with, granted}
-use Rattle.house_rules.specs.State.House.{Cells, HouseState, station_at}
+use Rattle.house_rules.specs.State.House.{Cells, HouseState}
 use Rattle.house_rules.specs.Theorem.Statements.{messages_aside, response_aside, MethodsAgree}
 use Rattle.house_rules.specs.Calls.Take.{is_late, turns_receiver, take_questions, arrives, arrives_late, taken_cells, under_way}
 use Rattle.house_rules.specs.Calls.Turn.{turns}
 use Rattle.house_rules.proofs.Calls.EveryCall.{begun_left, arrived_left}
 use Rattle.common.proofs.AllYes.{AllYes, all_yes_lem, yes_parts}
-use Rattle.house_rules.proofs.Statements.CountsAreConsistent.{granted_holds, made_yes, made_holds}
+use Rattle.house_rules.proofs.Statements.EveryHistory.{granted_holds, made_yes, made_holds}
 use Rattle.house_rules.proofs.Invariant.WholeHouse.{Holds}
-use Rattle.house_rules.proofs.Statements.MethodIsAskedRightly.{house_decides}
+use Rattle.house_rules.proofs.Calls.MethodQuestions.{house_decides}
 use Rattle.methods.specs.Model as models
+use Rattle.house_rules.specs.Calls.Event.{enter, post, take}
 
 -- the cells with the messages set aside
 abbrev aside : Cells → Cells
-aside h = with_messages h 0
+aside cells = with_messages cells 0
 
 -- Questions, answers and effects do not look at the messages
 
-take_questions_aside : (rule : Rule) (p : Phase) (h : Cells) (o : Option ColouredSlip) → take_questions rule p h o ≡ take_questions rule p (aside h) o
-take_questions_aside rule p h None = refl
-take_questions_aside rule p h (Some x) = refl
+take_questions_aside : (rule : Rule) (p : Phase) (cells : Cells) (o : Option ColouredSlip) → take_questions rule p cells o ≡ take_questions rule p (aside cells) o
+take_questions_aside rule p cells None = refl
+take_questions_aside rule p cells (Some x) = refl
 
-questions_aside : (rule : Rule) (p : Phase) (h : Cells) (out : ℕ) (call : Call) → house_questions rule p h out call ≡ house_questions rule p (aside h) out call
-questions_aside rule p h out (enter s a b r) = refl
-questions_aside rule p h out (post s to line amount) = refl
-questions_aside rule p h out (take a b) = take_questions_aside rule p h (under_way h a b)
-questions_aside rule p h out (open' s) = refl
-questions_aside rule p h out (turn s) = refl
-questions_aside rule p h out (gather s) = refl
-questions_aside rule p h out (report s) = refl
-questions_aside rule p h out close = refl
-questions_aside rule p h out (file late_on_receipt text) = refl
+questions_aside : (rule : Rule) (p : Phase) (cells : Cells) (out : ℕ) (call : Call) → house_questions rule p cells out call ≡ house_questions rule p (aside cells) out call
+questions_aside rule p cells out (event (enter s a b r)) = refl
+questions_aside rule p cells out (event (post s to line amount)) = refl
+questions_aside rule p cells out (event (take a b)) = take_questions_aside rule p cells (under_way cells a b)
+questions_aside rule p cells out (open' s) = refl
+questions_aside rule p cells out (turn s) = refl
+questions_aside rule p cells out (gather s) = refl
+questions_aside rule p cells out (report s) = refl
+questions_aside rule p cells out close = refl
+questions_aside rule p cells out (file late_on_receipt text) = refl
 
 -- the answer of a granted call, messages aside
 abbrev plain_reply : Cells → Call → Answer
-plain_reply h (enter s a b r) = nothing
-plain_reply h (post s to line amount) = number ((station_at h s).posted + 1)
-plain_reply h (take a b) = nothing
-plain_reply h (open' s) = nothing
-plain_reply h (turn s) = nothing
-plain_reply h (gather s) = sum (sum_at h s)
-plain_reply h (report s) = sent 0
-plain_reply h close = receipt (length h.late) 0
-plain_reply h (file late_on_receipt text) = filed (length (text_of h)) (written_over (text_of h) text)
+plain_reply cells (event e) = event_reply cells e
+plain_reply cells (open' s) = nothing
+plain_reply cells (turn s) = nothing
+plain_reply cells (gather s) = sum (sum_at cells s)
+plain_reply cells (report s) = sent 0
+plain_reply cells close = receipt (length cells.late) 0
+plain_reply cells (file late_on_receipt text) = filed (length (text_of cells)) (written_over (text_of cells) text)
 
 reply_aside : (m : Model) (x : HouseState m.State) (call : Call) → messages_aside (reply m x call) ≡ plain_reply (aside x.cells) call
-reply_aside m x (enter s a b r) = refl
-reply_aside m x (post s to line amount) = refl
-reply_aside m x (take a b) = refl
+reply_aside m x (event (enter s a b r)) = refl
+reply_aside m x (event (post s to line amount)) = refl
+reply_aside m x (event (take a b)) = refl
 reply_aside m x (open' s) = refl
 reply_aside m x (turn s) = refl
 reply_aside m x (gather s) = refl
@@ -74,24 +71,22 @@ reply_aside m x (file late_on_receipt text) = refl
 
 -- the cells after a granted call, messages aside
 abbrev cells_after : Rule → Phase → Cells → Call → Cells
-cells_after rule p h (enter s a b r) = entered_cells rule h s a b r
-cells_after rule p h (post s to line amount) = posted_cells h s to line amount
-cells_after rule p h (take a b) = taken_cells p h (under_way h a b)
-cells_after rule p h (open' s) = opened_cells h s
-cells_after rule p h (turn s) = turns h s
-cells_after rule p h (gather s) = gathered_cells h s
-cells_after rule p h (report s) = reported_cells h s
-cells_after rule p h close = h
-cells_after rule p h (file late_on_receipt text) = h
+cells_after rule p cells (event e) = cells_after_event rule p cells e
+cells_after rule p cells (open' s) = opened_cells cells s
+cells_after rule p cells (turn s) = turns cells s
+cells_after rule p cells (gather s) = gathered_cells cells s
+cells_after rule p cells (report s) = reported_cells cells s
+cells_after rule p cells close = cells
+cells_after rule p cells (file late_on_receipt text) = cells
 
-arrived_aside : (h : Cells) (x : ColouredSlip) (b t : Bool) → aside (cond b (arrives_late h x) (arrives (cond t (turns h x.slip.receiver) h) x)) ≡ aside (cond b (arrives_late (aside h) x) (arrives (cond t (turns (aside h) x.slip.receiver) (aside h)) x))
-arrived_aside h x true t = refl
-arrived_aside h x false true = refl
-arrived_aside h x false false = refl
+arrived_aside : (cells : Cells) (x : ColouredSlip) (b t : Bool) → aside (cond b (arrives_late cells x) (arrives (cond t (turns cells x.slip.receiver) cells) x)) ≡ aside (cond b (arrives_late (aside cells) x) (arrives (cond t (turns (aside cells) x.slip.receiver) (aside cells)) x))
+arrived_aside cells x true t = refl
+arrived_aside cells x false true = refl
+arrived_aside cells x false false = refl
 
-taken_aside : (p : Phase) (h : Cells) (o : Option ColouredSlip) → aside (taken_cells p h o) ≡ aside (taken_cells p (aside h) o)
-taken_aside p h None = refl
-taken_aside p h (Some x) = arrived_aside h x (is_late p h x) (turns_receiver p h x)
+taken_aside : (p : Phase) (cells : Cells) (o : Option ColouredSlip) → aside (taken_cells p cells o) ≡ aside (taken_cells p (aside cells) o)
+taken_aside p cells None = refl
+taken_aside p cells (Some x) = arrived_aside cells x (is_late p cells x) (turns_receiver p cells x)
 
 gather_aside : (m : Model) (x : HouseState m.State) (s : ℕ) → aside (after_gather m x s).cells ≡ aside (gathered_cells (aside x.cells) s)
 gather_aside m x s = go (eqb s 0)
@@ -101,9 +96,9 @@ gather_aside m x s = go (eqb s 0)
     go false = refl
 
 after_aside : (m : Model) (rule : Rule) (x : HouseState m.State) (call : Call) → aside (after m rule x call).cells ≡ aside (cells_after rule x.phase (aside x.cells) call)
-after_aside m rule x (enter s a b r) = refl
-after_aside m rule x (post s to line amount) = refl
-after_aside m rule x (take a b) = taken_aside x.phase x.cells (under_way x.cells a b)
+after_aside m rule x (event (enter s a b r)) = refl
+after_aside m rule x (event (post s to line amount)) = refl
+after_aside m rule x (event (take a b)) = taken_aside x.phase x.cells (under_way x.cells a b)
 after_aside m rule x (open' s) = refl
 after_aside m rule x (turn s) = refl
 after_aside m rule x (gather s) = gather_aside m x s
@@ -112,9 +107,7 @@ after_aside m rule x close = refl
 after_aside m rule x (file late_on_receipt text) = refl
 
 abbrev phase_after : Phase → Call → Phase
-phase_after p (enter s a b r) = p
-phase_after p (post s to line amount) = p
-phase_after p (take a b) = p
+phase_after p (event e) = p
 phase_after p (open' s) = Counting
 phase_after p (turn s) = p
 phase_after p (gather s) = p
@@ -123,9 +116,7 @@ phase_after p close = Closed
 phase_after p (file late_on_receipt text) = Ready
 
 phase_after_lem : (m : Model) (rule : Rule) (x : HouseState m.State) (call : Call) → (after m rule x call).phase ≡ phase_after x.phase call
-phase_after_lem m rule x (enter s a b r) = refl
-phase_after_lem m rule x (post s to line amount) = refl
-phase_after_lem m rule x (take a b) = refl
+phase_after_lem m rule x (event e) = refl
 phase_after_lem m rule x (open' s) = refl
 phase_after_lem m rule x (turn s) = refl
 phase_after_lem m rule x (gather s) = go (eqb s 0)
@@ -150,13 +141,13 @@ module _ (m k : Model) (ml : models.Lawful m) (kl : models.Lawful k) (rule : Rul
       house_decides m rule c x hx call
       ∙ ap first_no (questions_aside rule x.phase x.cells (m.rules.outstanding x.method) call)
       ∙ ap (λ p. first_no (house_questions rule p (aside x.cells) (m.rules.outstanding x.method) call)) s.phase
-      ∙ ap (λ h. first_no (house_questions rule y.phase h (m.rules.outstanding x.method) call)) s.cells
+      ∙ ap (λ cells. first_no (house_questions rule y.phase cells (m.rules.outstanding x.method) call)) s.cells
       ∙ ap (λ o. first_no (house_questions rule y.phase (aside y.cells) o call)) s.outstanding
       ∙ sym (ap first_no (questions_aside rule y.phase y.cells (k.rules.outstanding y.method) call))
       ∙ sym (house_decides k rule d y hy call)
 
   same_reply : (x : HouseState m.State) (y : HouseState k.State) (call : Call) → Same m k x y → messages_aside (reply m x call) ≡ messages_aside (reply k y call)
-  same_reply x y call s = reply_aside m x call ∙ ap (λ h. plain_reply h call) s.cells ∙ sym (reply_aside k y call)
+  same_reply x y call s = reply_aside m x call ∙ ap (λ cells. plain_reply cells call) s.cells ∙ sym (reply_aside k y call)
 
   -- after a begin the methods wait for the same sum, after an arrival for one fewer
   gather_outstanding : (c d : Cut) (x : HouseState m.State) (y : HouseState k.State) (s : ℕ) → Holds m rule c x → Holds k rule d y → Same m k x y → AllYes (root_questions m x s) → AllYes (root_questions k y s) → m.rules.outstanding (after_gather m x s).method ≡ k.rules.outstanding (after_gather k y s).method
@@ -166,14 +157,12 @@ module _ (m k : Model) (ml : models.Lawful m) (kl : models.Lawful k) (rule : Rul
       go true e =
           let a = (begun_left m ml rule c x hx s e yx).0 in
           let b = (begun_left k kl rule d y hy s e yy).0 in
-          let h : sum_at x.cells s ≡ sum_at y.cells s = ap (λ (z : Cells). sum_at z s) sa.cells in
-          ap nat_abs (a ∙ h ∙ sym b)
+          let w : sum_at x.cells s ≡ sum_at y.cells s = ap (λ (z : Cells). sum_at z s) sa.cells in
+          ap nat_abs (a ∙ w ∙ sym b)
       go false e = sa.outstanding
 
   same_outstanding : (c d : Cut) (x : HouseState m.State) (y : HouseState k.State) (call : Call) → Holds m rule c x → Holds k rule d y → Same m k x y → AllYes (method_questions m x call) → AllYes (method_questions k y call) → m.rules.outstanding (after m rule x call).method ≡ k.rules.outstanding (after k rule y call).method
-  same_outstanding c d x y (enter s a b r) hx hy sa yx yy = sa.outstanding
-  same_outstanding c d x y (post s to line amount) hx hy sa yx yy = sa.outstanding
-  same_outstanding c d x y (take a b) hx hy sa yx yy = sa.outstanding
+  same_outstanding c d x y (event e) hx hy sa yx yy = sa.outstanding
   same_outstanding c d x y (open' s) hx hy sa yx yy = sa.outstanding
   same_outstanding c d x y (turn s) hx hy sa yx yy = sa.outstanding
   same_outstanding c d x y (gather s) hx hy sa yx yy = gather_outstanding c d x y s hx hy sa yx yy
@@ -194,7 +183,7 @@ module _ (m k : Model) (ml : models.Lawful m) (kl : models.Lawful k) (rule : Rul
         cells =
             after_aside m rule x call
             ∙ ap (λ p. aside (cells_after rule p (aside x.cells) call)) sa.phase
-            ∙ ap (λ h. aside (cells_after rule y.phase h call)) sa.cells
+            ∙ ap (λ cells. aside (cells_after rule y.phase cells call)) sa.cells
             ∙ sym (after_aside k rule y call);
         outstanding = same_outstanding c d x y call hx hy sa yx.1 yy.1;
       }

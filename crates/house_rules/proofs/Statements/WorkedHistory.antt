@@ -1,4 +1,4 @@
--- The worked history, computed by the definitions.
+-- WorkedHistory: computed by the definitions.
 use Rattle.std.proofs.Common.{refl}
 use Rattle.std.specs.Fmt.{digits}
 use Rattle.methods.specs.Deal.{dealt}

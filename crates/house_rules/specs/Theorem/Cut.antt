@@ -1,8 +1,8 @@
 -- The cut that a count makes, read off the granted calls alone.
 use Rattle.std.specs.Prelude.{ℕ, ◌+◌, Bool, true, false, cond, ◌||◌, List, [], ◌∷◌, ◌++◌, ◌==◌}
 use Rattle.house_rules.specs.State.Names.{same_name}
-use Rattle.house_rules.specs.Theorem.PlainHouse.{Event, enters, posts, takes}
-use Rattle.house_rules.specs.Calls.EveryCall.{Call, enter, post, take, open', turn, gather, report, close, file}
+use Rattle.house_rules.specs.Calls.EveryCall.{Call, open', turn, gather, report, close, file, event}
+use Rattle.house_rules.specs.Calls.Event.{Event, enter, post, take}
 
 -- a function with one value changed
 abbrev pub put : {X : Type 0} → (ℕ → X) → ℕ → X → ℕ → X
@@ -13,7 +13,7 @@ put_slip f a b v x y = cond (same_name a b x y) v (f x y)
 
 -- the present count is the one opened last: from its close until the next open the fields still describe it
 pub record Cut : Type 0 where
-  pub all : List Event  -- every granted enter, post and take
+  pub all : List Event  -- every granted event
   pub before : List Event  -- those before their stations' turns for the present count, in the old order
   pub after : List Event  -- the rest, in the old order
   pub turned : ℕ → Bool  -- the stations that have turned in the present count
@@ -41,12 +41,16 @@ with_open c s = record { all = c.all; before = c.all; after = []; turned = put (
 
 -- station q takes a slip: it turns just before, if the slip is new and it has not turned; the take is its event
 abbrev pub with_take : Cut → (q a b : ℕ) → Cut
-with_take c q a b = with_event (with_turned c (put c.turned q (c.turned q || c.new a b))) (c.turned q || c.new a b) (takes a b)
+with_take c q a b = with_event (with_turned c (put c.turned q (c.turned q || c.new a b))) (c.turned q || c.new a b) (take a b)
+
+-- the cut after an event, and after any call
+abbrev pub cut_after_event : Cut → Event → Cut
+cut_after_event c (enter s a b r) = with_event c (c.turned s) (enter s a b r)
+cut_after_event c (post s to line amount) = with_event (with_post c s to (c.posted s + 1)) (c.turned s) (post s to line amount)
+cut_after_event c (take a b) = with_take c (c.receiver a b) a b
 
 abbrev pub cut_after : Cut → Call → Cut
-cut_after c (enter s a b r) = with_event c (c.turned s) (enters s a b r)
-cut_after c (post s to line amount) = with_event (with_post c s to (c.posted s + 1)) (c.turned s) (posts s to line amount)
-cut_after c (take a b) = with_take c (c.receiver a b) a b
+cut_after c (event e) = cut_after_event c e
 cut_after c (open' s) = with_open c s
 cut_after c (turn s) = with_turned c (put c.turned s true)
 cut_after c (gather s) = c

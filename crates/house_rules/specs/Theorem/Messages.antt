@@ -4,7 +4,7 @@ use Rattle.common.specs.Limits.{most_messages}
 use Rattle.sections.specs.Rule.{Rule}
 use Rattle.methods.specs.Model.{Model}
 use Rattle.house_rules.specs.State.House.{HouseState}
-use Rattle.house_rules.specs.Calls.EveryCall.{Call, enter, post, take, open', turn, gather, report, close, file, Answer, nothing, number, sum, sent, receipt, filed}
+use Rattle.house_rules.specs.Calls.EveryCall.{Call, open', turn, gather, report, close, file, Answer, nothing, number, sum, sent, receipt, filed, event}
 use Rattle.house_rules.specs.Theorem.Histories.{Outcome, refused, done, step, next, History}
 
 -- what a gather answers, and what a report answers that it sent
@@ -27,9 +27,7 @@ sent_told (filed written text) = 0
 -- after a granted call, where they were so many before it: an open starts at 0; at the root's gather the method sends what
 -- it begins with, over all stations and the sum answered; a report sends what it answers
 abbrev pub messages_after : (m : Model) → HouseState m.State → (before : ℕ) → Call → Answer → ℕ
-messages_after m x before (enter s a b r) answer = before
-messages_after m x before (post s to line amount) answer = before
-messages_after m x before (take a b) answer = before
+messages_after m x before (event e) answer = before
 messages_after m x before (open' s) answer = 0
 messages_after m x before (turn s) answer = before
 messages_after m x before (gather s) answer = cond (s == 0) (before + m.rules.begin_sent x.method x.cells.n (gathered_told answer)) before

@@ -4,16 +4,12 @@ use Rattle.common.specs.Questions.{all_yes}
 use Rattle.sections.specs.Rule.{Rule, blank_sheet, entered, debited, credited}
 use Rattle.house_rules.specs.declared.slip.Slip.{Slip}
 use Rattle.house_rules.specs.State.Names.{find, without}
+use Rattle.house_rules.specs.Calls.Event.{Event, enter, post, take}
 
 pub record PlainHouse : Type 0 where
   pub sheets : List (List ℤ)
   pub posted : List ℕ  -- each station's granted posts so far
   pub under_way : List Slip
-
-pub data Event : Type 0 where
-  enters : (station a b : ℕ) (r : ℤ) → Event
-  posts : (station to line : ℕ) (amount : ℤ) → Event
-  takes : (sender number : ℕ) → Event
 
 -- n blank sheets and no slip under way
 abbrev pub blank : (n : ℕ) → PlainHouse
@@ -35,15 +31,15 @@ plain_take rule p (Some x) =
 
 -- one event; None where it is refused: no such station, no such slip, or the section does not admit it
 abbrev pub plain_step : Rule → PlainHouse → Event → Option PlainHouse
-plain_step rule p (enters s a b r) =
+plain_step rule p (enter s a b r) =
     cond (has_station p s && all_yes (rule.entry (plain_sheet p s) a b r))
     (Some (record { sheets = slice_set p.sheets s (entered (plain_sheet p s) (rule.gain a b r)); posted = p.posted; under_way = p.under_way }))
     None
-plain_step rule p (posts s to line amount) =
+plain_step rule p (post s to line amount) =
     cond ((has_station p s && has_station p to) && all_yes (rule.debit (plain_sheet p s) line amount))
     (Some (record { sheets = slice_set p.sheets s (debited (plain_sheet p s) line amount); posted = slice_set p.posted s (slice_index p.posted s + 1); under_way = p.under_way ++ (record { sender = s; number = slice_index p.posted s + 1; receiver = to; line = line; amount = amount } ∷ []) }))
     None
-plain_step rule p (takes a b) = plain_take rule p (find a b p.under_way)
+plain_step rule p (take a b) = plain_take rule p (find a b p.under_way)
 
 -- what is refused alters nothing
 abbrev pub or_stays : PlainHouse → Option PlainHouse → PlainHouse

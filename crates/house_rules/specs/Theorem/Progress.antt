@@ -2,8 +2,9 @@
 use Rattle.std.specs.Prelude.{◌≡◌, ℕ, ◌+◌, ◌<◌, Bool, true, false, cond, not, ◌&&◌, List, [], ◌∷◌}
 use Rattle.std.specs.List.{AllByRecursion}
 use Rattle.house_rules.specs.declared.slip.Slip.{Slip}
-use Rattle.house_rules.specs.Calls.EveryCall.{Call, enter, post, take, open', turn, gather, report, close, file}
+use Rattle.house_rules.specs.Calls.EveryCall.{Call, open', turn, gather, report, close, file, event}
 use Rattle.house_rules.specs.Theorem.Cut.{Cut, put, cut_after, no_cut}
+use Rattle.house_rules.specs.Calls.Event.{Event, enter, post, take}
 
 -- from a close until the next open all but `open?` still describe the count that was closed
 pub record Progress : Type 0 where
@@ -22,10 +23,14 @@ late_take c g a b = g.open? && (c.turned (c.receiver a b) && not (c.new a b))
 abbrev pub one_more : (ℕ → ℕ) → ℕ → ℕ → ℕ
 one_more f s = put f s (f s + 1)
 
+-- the late takes after an event
+abbrev pub late_takes_after : Cut → Progress → Event → ℕ → ℕ
+late_takes_after c g (enter s a b r) = g.late_takes
+late_takes_after c g (post s to line amount) = g.late_takes
+late_takes_after c g (take a b) = cond (late_take c g a b) (one_more g.late_takes (c.receiver a b)) g.late_takes
+
 abbrev pub progress_after : Cut → Progress → Call → Progress
-progress_after c g (enter s a b r) = g
-progress_after c g (post s to line amount) = g
-progress_after c g (take a b) = record { open? = g.open?; gathered = g.gathered; late_takes = cond (late_take c g a b) (one_more g.late_takes (c.receiver a b)) g.late_takes; reports = g.reports }
+progress_after c g (event e) = record { open? = g.open?; gathered = g.gathered; late_takes = late_takes_after c g e; reports = g.reports }
 progress_after c g (open' s) = record { open? = true; gathered = λ t. false; late_takes = λ t. 0; reports = λ t. 0 }
 progress_after c g (turn s) = g
 progress_after c g (gather s) = record { open? = g.open?; gathered = put g.gathered s true; late_takes = g.late_takes; reports = g.reports }

@@ -14,9 +14,10 @@ use Rattle.house_rules.specs.Theorem.Histories.{done, refused, make, step, run, 
 use Rattle.common.specs.Sums.{sum_of}
 use Rattle.house_rules.specs.Calls.CountText.{score}
 use Rattle.house_rules.specs.Calls.File.{text_of}
-use Rattle.house_rules.specs.Theorem.PlainHouse.{Event, enters, posts, takes, blank, plain_run, RefusesNone}
+use Rattle.house_rules.specs.Theorem.PlainHouse.{blank, plain_run, RefusesNone}
 use Rattle.house_rules.specs.Theorem.Cut.{cut_of}
 use Rattle.house_rules.specs.Theorem.Progress.{Complete, progress_of}
+use Rattle.house_rules.specs.Calls.Event.{Event, enter, post, take}
 
 -- Consistent: the events before the cut, then the rest, are a run of the plain house that refuses none. Where the first
 -- part ends it holds the recorded sheets, and the slips of the late list are under way; where the second part ends it
@@ -53,9 +54,9 @@ CountsAreConsistent m =
 
 -- Scores: what an event gives a line
 abbrev pub gain_of : Rule → (line : ℕ) → Event → ℤ
-gain_of rule line (enters s a b r) = rule.gain a b r line
-gain_of rule line (posts s to l amount) = pos 0
-gain_of rule line (takes a b) = pos 0
+gain_of rule line (enter s a b r) = rule.gain a b r line
+gain_of rule line (post s to l amount) = pos 0
+gain_of rule line (take a b) = pos 0
 
 -- each line's score is what the entries before the turns gave it
 abbrev pub ClosesWithScores : (m : Model) → Rule → (x y : HouseState m.State) → Type 0
@@ -113,7 +114,8 @@ pub record Alike {P Q : Type 0} (x : HouseState P) (y : HouseState Q) : Type 0 w
   pub tray : x.cells.tray ≡ y.cells.tray
   pub late : x.cells.late ≡ y.cells.late
 
--- houses made alike but for the method and given the same calls give the same responses (the texts are among them) and stay alike
+-- houses made alike but for the method and given the same calls give the same responses, the texts among them, and stay
+-- alike
 abbrev pub MethodsAgree : Model → Model → Type 0
 MethodsAgree m k =
     (rule : Rule) (handed : Handed) (p : m.State) (q : k.State) → m.Valid p → k.Valid q →

@@ -7,10 +7,10 @@ use Rattle.house_rules.specs.declared.phase.Phase.TheVariants.{Ready}
 use Rattle.house_rules.specs.State.Names.{slips_of}
 use Rattle.house_rules.specs.State.House.{HouseState}
 use Rattle.house_rules.specs.Calls.Make.{Handed, made_house}
-use Rattle.house_rules.specs.Calls.EveryCall.{Call, enter, post, take, open', turn, gather, report, close, file, nothing, number, sum, sent, receipt, filed}
+use Rattle.house_rules.specs.Calls.EveryCall.{Call, open', turn, gather, report, close, file, nothing, number, sum, sent, receipt, filed, event}
 use Rattle.house_rules.specs.Theorem.Histories.{make, done, run, Response, refused_with, granted, responses, granted_among}
-use Rattle.house_rules.specs.Theorem.PlainHouse.{enters, posts, takes}
 use Rattle.house_rules.specs.Theorem.Cut.{cut_of}
+use Rattle.house_rules.specs.Calls.Event.{enter, post, take}
 
 abbrev pub first_handed : Handed
 first_handed = record { n = 3; sheets = 3; recorded = 3; tray_cells = 64; late_cells = 64 }
@@ -21,21 +21,21 @@ first_house = made_house first_handed tree_model.rules.fresh
 -- results 2 and 1 are a win of the first line and a draw; the text handed in at the end has 80 bytes
 abbrev pub worked_calls : List Call
 worked_calls =
-    enter 0 0 1 (pos 2)
-    ∷ enter 1 2 3 (pos 1)
-    ∷ post 0 1 0 (pos 2)
+    event (enter 0 0 1 (pos 2))
+    ∷ event (enter 1 2 3 (pos 1))
+    ∷ event (post 0 1 0 (pos 2))
     ∷ open' 0
-    ∷ enter 0 4 5 (pos 2)
-    ∷ post 0 2 4 (pos 1)
-    ∷ take 0 2
-    ∷ post 1 2 2 (pos 1)
-    ∷ take 1 1
+    ∷ event (enter 0 4 5 (pos 2))
+    ∷ event (post 0 2 4 (pos 1))
+    ∷ event (take 0 2)
+    ∷ event (post 1 2 2 (pos 1))
+    ∷ event (take 1 1)
     ∷ turn 1
     ∷ gather 1
     ∷ gather 2
     ∷ gather 0
     ∷ close
-    ∷ take 0 1
+    ∷ event (take 0 1)
     ∷ report 2
     ∷ report 1
     ∷ close
@@ -73,16 +73,16 @@ worked_responses =
 -- receipt before.
 abbrev pub second_calls : List Call
 second_calls =
-    post 2 0 2 (pos 1)
+    event (post 2 0 2 (pos 1))
     ∷ open' 1
-    ∷ post 1 0 0 (pos 1)
+    ∷ event (post 1 0 0 (pos 1))
     ∷ turn 0
-    ∷ take 2 1
+    ∷ event (take 2 1)
     ∷ turn 2
     ∷ gather 1
     ∷ gather 2
     ∷ gather 0
-    ∷ take 1 2
+    ∷ event (take 1 2)
     ∷ report 0
     ∷ close
     ∷ file 2 (replicate 110 0)
@@ -117,14 +117,14 @@ pub record WorkedHistory : Type 0 where
   pub recorded : (run tree_model chess first_house worked_calls).cells.recorded ≡ blank_sheet ∷ slice_set blank_sheet 3 (pos 1) ∷ blank_sheet ∷ []
   pub late : slips_of (run tree_model chess first_house worked_calls).cells.late ≡ record { sender = 1; number = 1; receiver = 2; line = 2; amount = pos 1 } ∷ record { sender = 0; number = 1; receiver = 1; line = 0; amount = pos 2 } ∷ []
   -- the cut of the count
-  pub before : (cut_of (granted_among tree_model chess first_house worked_calls)).before ≡ enters 0 0 1 (pos 2) ∷ enters 1 2 3 (pos 1) ∷ posts 0 1 0 (pos 2) ∷ posts 1 2 2 (pos 1) ∷ []
-  pub after : (cut_of (granted_among tree_model chess first_house worked_calls)).after ≡ enters 0 4 5 (pos 2) ∷ posts 0 2 4 (pos 1) ∷ takes 0 2 ∷ takes 1 1 ∷ takes 0 1 ∷ []
+  pub before : (cut_of (granted_among tree_model chess first_house worked_calls)).before ≡ enter 0 0 1 (pos 2) ∷ enter 1 2 3 (pos 1) ∷ post 0 1 0 (pos 2) ∷ post 1 2 2 (pos 1) ∷ []
+  pub after : (cut_of (granted_among tree_model chess first_house worked_calls)).after ≡ enter 0 4 5 (pos 2) ∷ post 0 2 4 (pos 1) ∷ take 0 2 ∷ take 1 1 ∷ take 0 1 ∷ []
   pub phase : (run tree_model chess first_house worked_calls).phase ≡ Ready
   -- both counts in a row
   pub answered_second : responses tree_model chess first_house (worked_calls ++ second_calls) ≡ worked_responses ++ second_responses
   pub recorded_second : (run tree_model chess first_house (worked_calls ++ second_calls)).cells.recorded ≡ slice_set blank_sheet 4 (pos 1) ∷ slice_set (slice_set blank_sheet 0 (pos 2)) 3 (pos 1) ∷ slice_set blank_sheet 4 (pos 1) ∷ []
   pub late_second : slips_of (run tree_model chess first_house (worked_calls ++ second_calls)).cells.late ≡ record { sender = 2; number = 1; receiver = 0; line = 2; amount = pos 1 } ∷ []
   -- all events of the first count, and the post before the open, lie before the second cut
-  pub before_second : (cut_of (granted_among tree_model chess first_house (worked_calls ++ second_calls))).before ≡ enters 0 0 1 (pos 2) ∷ enters 1 2 3 (pos 1) ∷ posts 0 1 0 (pos 2) ∷ enters 0 4 5 (pos 2) ∷ posts 0 2 4 (pos 1) ∷ takes 0 2 ∷ posts 1 2 2 (pos 1) ∷ takes 1 1 ∷ takes 0 1 ∷ posts 2 0 2 (pos 1) ∷ []
-  pub after_second : (cut_of (granted_among tree_model chess first_house (worked_calls ++ second_calls))).after ≡ posts 1 0 0 (pos 1) ∷ takes 2 1 ∷ takes 1 2 ∷ []
+  pub before_second : (cut_of (granted_among tree_model chess first_house (worked_calls ++ second_calls))).before ≡ enter 0 0 1 (pos 2) ∷ enter 1 2 3 (pos 1) ∷ post 0 1 0 (pos 2) ∷ enter 0 4 5 (pos 2) ∷ post 0 2 4 (pos 1) ∷ take 0 2 ∷ post 1 2 2 (pos 1) ∷ take 1 1 ∷ take 0 1 ∷ post 2 0 2 (pos 1) ∷ []
+  pub after_second : (cut_of (granted_among tree_model chess first_house (worked_calls ++ second_calls))).after ≡ post 1 0 0 (pos 1) ∷ take 2 1 ∷ take 1 2 ∷ []
   pub phase_second : (run tree_model chess first_house (worked_calls ++ second_calls)).phase ≡ Ready

@@ -1,4 +1,4 @@
-use Rattle.house_rules.proofs.Statements.CountsAreConsistent.{scores_are_gains}
+use Rattle.house_rules.proofs.Statements.ScoresAreGains.{scores_are_gains}
 use Rattle.house_rules.proofs.theorems.scores_are_gains.Goals as goal
 
 pub returns : goal.returns

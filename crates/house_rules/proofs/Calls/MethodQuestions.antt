@@ -1,4 +1,4 @@
--- The counting method refuses nothing: where the house's own questions are all answered yes, so are the method's.
+-- Every call: where the house's own questions are all answered yes, so are the method's; for MethodRefusesNothing.
 use Rattle.std.proofs.Common.{◌≡◌, ℕ, suc, ◌+◌, ◌<◌, ◌≤◌, Bool, true, false, cond, not, ◌&&◌, eqb, leb, List, [], ◌∷◌, length, ℤ, pos, negsuc, nat_abs, sym, refl, ap, ◌∙◌, arith}
 use lib.Signed.{le_z}
 use Rattle.std.proofs.lemmas.Bool.{true≢false, eqb-true, ltb-true, lt-ltb, leb-true, and_parts, not-true, eq-eqb, le-leb}
@@ -6,17 +6,17 @@ use Rattle.sections.specs.Rule.{Rule}
 use Rattle.methods.specs.Model.{Model, begin_questions}
 use Rattle.common.specs.Questions.{first_no}
 use Rattle.house_rules.specs.declared.slip.ColouredSlip.{ColouredSlip}
-use Rattle.house_rules.specs.Calls.EveryCall.{Call, house_questions, method_questions, questions, enter, post, take, open', turn, gather, report, close, file}
+use Rattle.house_rules.specs.Calls.EveryCall.{Call, house_questions, method_questions, questions, open', turn, gather, report, close, file, event}
 use Rattle.house_rules.specs.Theorem.Cut.{Cut}
 use Rattle.house_rules.specs.Calls.Gather.{gather_questions, sum_at, root_questions}
 use Rattle.house_rules.specs.Calls.Report.{report_questions, arrived_questions}
 use Rattle.house_rules.specs.State.House.{HouseState, station_at}
 use Rattle.common.proofs.AllYes.{AllYes, first_decide}
-use Rattle.house_rules.proofs.Statements.CloseIsACut.{owed}
+use Rattle.house_rules.proofs.Calls.Close.{owed}
 use Rattle.house_rules.proofs.Invariant.GatheredSum.{root_sum}
 use Rattle.house_rules.proofs.Invariant.WholeHouse.{Holds}
 use Rattle.house_rules.proofs.Invariant.Phases.{is_counting_lem}
-use Rattle.house_rules.proofs.Calls.OpenGatherReportFile.{turned_below}
+use Rattle.house_rules.proofs.Calls.Gather.{turned_below}
 use Rattle.house_rules.proofs.Invariant.Sound.{During}
 use Rattle.house_rules.proofs.Lists.Totals.{sum_z, sum_z_same, sum_n_le, count}
 use Rattle.house_rules.proofs.Calls.Turn.{during_of}
@@ -90,9 +90,7 @@ module _ (m : Model) (rule : Rule) (c : Cut) (x : HouseState m.State) (k : Holds
       (lt-ltb s (m.rules.stations x.method) (rw st lt), (lt-ltb 0 (m.rules.outstanding x.method) (omega arith), tt))
 
   pub method_yes : (call : Call) → AllYes (house_questions rule x.phase x.cells (m.rules.outstanding x.method) call) → AllYes (method_questions m x call)
-  method_yes (enter s a b r) y = tt
-  method_yes (post s to line amount) y = tt
-  method_yes (take a b) y = tt
+  method_yes (event e) y = tt
   method_yes (open' s) y = tt
   method_yes (turn s) y = tt
   method_yes (gather s) y = begin_yes s y

@@ -1,6 +1,6 @@
--- The parts of the invariant, moved to equal arguments.
-use Rattle.std.proofs.Common.{◌≡◌, ℕ, ◌<◌, Bool, true, false, List, [], ◌∷◌, ◌++◌, ℤ, Some, refl, subst, arith}
-use Rattle.sections.specs.Rule.{Rule}
+-- What proofs of several calls share: parts of the invariant under equal arguments and after one more event.
+use Rattle.std.proofs.Common.{◌≡◌, ℕ, ◌<◌, Bool, true, false, List, [], ◌∷◌, ◌++◌, ℤ, Some, refl, subst, arith, zero, suc, length, get_or, replicate}
+use Rattle.sections.specs.Rule.{Rule, blank_sheet}
 use Rattle.house_rules.specs.declared.colour.Colour.{Colour}
 use Rattle.house_rules.specs.declared.phase.Phase.{Phase}
 use Rattle.house_rules.specs.declared.phase.Phase.TheVariants.{Ready, Counting, Closed}
@@ -8,7 +8,6 @@ use Rattle.house_rules.specs.declared.slip.ColouredSlip.{ColouredSlip}
 use Rattle.house_rules.specs.declared.slip.Slip.{Slip}
 use Rattle.house_rules.specs.Theorem.Cut.{Cut}
 use Rattle.house_rules.specs.State.Names.{find}
-use Rattle.house_rules.specs.Theorem.PlainHouse.{Event}
 use Rattle.house_rules.specs.State.House.{Cells, station_at}
 use Rattle.house_rules.proofs.Invariant.Deficits.{Balance}
 use Rattle.house_rules.proofs.Invariant.Colours.{Colouring}
@@ -16,6 +15,10 @@ use Rattle.house_rules.proofs.Invariant.Names.{Naming}
 use Rattle.house_rules.proofs.Invariant.Sound.{start_view, Common, Tree, ByPhase, all_turned}
 use Rattle.house_rules.proofs.Invariant.Cut.{event_push}
 use Rattle.house_rules.proofs.Invariant.PlainHouse.{View, FullEvent, event_of, Acts, Numbered, acted_push}
+use Rattle.house_rules.specs.Calls.Event.{Event}
+use Rattle.std.proofs.lemmas.List.{length-replicate}
+use Rattle.house_rules.specs.Theorem.PlainHouse.{blank}
+use Rattle.house_rules.proofs.Invariant.PlainSteps.{Fine}
 
 pub by_phase : (p : Phase) (A A' B B' : Type 0) → (A → A') → (B → B') → ByPhase p A B → ByPhase p A' B'
 by_phase Ready A A' B B' f g s = f s
@@ -43,9 +46,18 @@ pub start_numbered : (n : ℕ) → Numbered (start_view n)
 start_numbered n a b x e = let z : ◌≡◌ {A = ℕ} 0 1 = cc in absurd (omega arith)
 
 -- while a station has not turned, the root has not gathered
-pub root_waits : (c : Cut) (h : Cells) → Tree h.n (λ s. (station_at h s).gathered) c.turned → (s : ℕ) → s < h.n → c.turned s ≡ false → (station_at h 0).gathered ≡ false
-root_waits c h tree s lt un = go (station_at h 0).gathered refl
+pub root_waits : (c : Cut) (cells : Cells) → Tree cells.n (λ s. (station_at cells s).gathered) c.turned → (s : ℕ) → s < cells.n → c.turned s ≡ false → (station_at cells 0).gathered ≡ false
+root_waits c cells tree s lt un = go (station_at cells 0).gathered refl
   where
-    go : (b : Bool) → (station_at h 0).gathered ≡ b → b ≡ false
+    go : (b : Bool) → (station_at cells 0).gathered ≡ b → b ≡ false
     go false e = refl
-    go true e = let k = all_turned h.n (λ s. (station_at h s).gathered) c.turned tree e s lt in let z : ◌≡◌ {A = ℕ} 0 1 = cc in absurd (omega arith)
+    go true e = let k = all_turned cells.n (λ s. (station_at cells s).gathered) c.turned tree e s lt in let z : ◌≡◌ {A = ℕ} 0 1 = cc in absurd (omega arith)
+
+-- all sheets of a blank house have 32 lines
+blank_wide : (n s : ℕ) → s < n → length (get_or (replicate n blank_sheet) s []) ≡ 32
+blank_wide zero s l = absurd (omega arith)
+blank_wide (suc n) zero l = refl
+blank_wide (suc n) (suc s) l = blank_wide n s (omega arith)
+
+pub fine_blank : (n : ℕ) → Fine n (blank n)
+fine_blank n = record { sheets = length-replicate n blank_sheet; posted = length-replicate n 0; distinct = tt; numbered = start_numbered n; wide = λ s l. blank_wide n s l }
