@@ -14,9 +14,9 @@ use Rattle.house_rules.specs.Calls.Make.{Handed, made_house}
 abbrev pub BoxHouse : Type 0
 BoxHouse = HouseState BoxState
 
--- n stations, with as many sheets, as many sheets in the record, and two cells each for tray and late list
+-- n stations, with as many sheets, as many sheets in the record, two cells for the tray and three for the late list
 abbrev pub handed_for : (n : ℕ) → Handed
-handed_for n = record { n = n; sheets = n; recorded = n; tray_cells = 2; late_cells = 2 }
+handed_for n = record { n = n; sheets = n; recorded = n; tray_cells = 2; late_cells = 3 }
 
 -- a house in which nothing has been called: white stations, blank sheets, ready
 abbrev pub house_of : (n : ℕ) → BoxHouse

@@ -17,12 +17,12 @@ under_way_to t = has_station 1 t (has_tray (white_slip 1 ∷ []) three)
 abbrev pub late_to : Station → BoxHouse
 late_to t = counting (under_way_to t)
 
--- one late slip so far, in two cells; and two
-abbrev pub one_late : BoxHouse → BoxHouse
-one_late x = has_late (white_slip 8 ∷ []) x
+-- two late slips so far, in three cells; and three
+abbrev pub two_late : BoxHouse → BoxHouse
+two_late x = has_late (white_slip 7 ∷ white_slip 8 ∷ []) x
 
 abbrev pub full_late : BoxHouse → BoxHouse
-full_late x = has_late (white_slip 8 ∷ white_slip 9 ∷ []) x
+full_late x = has_late (white_slip 7 ∷ white_slip 8 ∷ white_slip 9 ∷ []) x
 
 pub record TakeEdges : Type 0 where
   pub slip_that_is_there : Grants (has_tray (white_slip 1 ∷ []) three) (take_slip 0 1) nothing
@@ -43,7 +43,7 @@ pub record TakeEdges : Type 0 where
   -- where the receiver turns first its deficit restarts at 0, and a late slip leaves it
   pub any_deficit_where_the_receiver_turns : Grants (counting (has_station 1 (with_deficit (neg_ℤ (pos 30000))) (has_tray (red_slip 1 ∷ []) three))) (take_slip 0 1) nothing
   pub any_deficit_where_the_slip_is_late : Grants (late_to (red_with_deficit (neg_ℤ (pos 30000)))) (take_slip 0 1) nothing
-  pub last_late_cell : Grants (one_late (late_to red)) (take_slip 0 1) nothing
+  pub last_late_cell : Grants (two_late (late_to red)) (take_slip 0 1) nothing
   pub full_late_list : Refuses (full_late (late_to red)) (take_slip 0 1) 11
   pub full_late_list_and_the_same_colour : Grants (full_late (counting (has_station 1 red (has_tray (red_slip 1 ∷ []) three)))) (take_slip 0 1) nothing
   pub full_late_list_between_counts : Grants (full_late (under_way_to red)) (take_slip 0 1) nothing
