@@ -24,29 +24,29 @@ abbrev pub said_to_have : (n : ℕ) → BoxHouse → BoxHouse
 said_to_have n x = with_cells x (record { n = n; tray_cells = x.cells.tray_cells; late_cells = x.cells.late_cells; sheets = x.cells.sheets; recorded = x.cells.recorded; stations = x.cells.stations; tray = x.cells.tray; late = x.cells.late; messages = x.cells.messages })
 
 pub record GatherEdges : Type 0 where
-  pub last_station : Grants (open_with 2 red) (gather_at 2) (sum (pos 0))
-  pub no_such_station : Refuses (open_with 2 red) (gather_at 3) 4
-  pub not_counting : Refuses (has_station 1 red three) (gather_at 1) 13
-  pub closed_already : Refuses (closed (has_station 1 red three)) (gather_at 1) 13
-  pub not_turned : Refuses (counting three) (gather_at 1) 15
-  pub turned : Grants (open_with 1 red) (gather_at 1) (sum (pos 0))
-  pub gathered_already : Refuses (open_with 1 has_gathered) (gather_at 1) 16
-  pub both_children_gathered : Grants (root_with (pos 0)) (gather_at 0) (sum (pos 0))
-  pub left_child_not_gathered : Refuses (above red has_gathered (pos 0)) (gather_at 0) 17
-  pub right_child_not_gathered : Refuses (above has_gathered red (pos 0)) (gather_at 0) 17
-  pub no_right_child : Grants (counting (has_station 0 red (has_station 1 has_gathered (house_of 2)))) (gather_at 0) (sum (pos 0))
-  pub no_child : Grants (counting (has_station 0 red (house_of 1))) (gather_at 0) (sum (pos 0))
+  pub last_station_is_granted : Grants (open_with 2 red) (gather_at 2) (sum (pos 0))
+  pub no_such_station_is_number_4 : Refuses (open_with 2 red) (gather_at 3) 4
+  pub not_counting_is_number_13 : Refuses (has_station 1 red three) (gather_at 1) 13
+  pub closed_already_is_number_13 : Refuses (closed (has_station 1 red three)) (gather_at 1) 13
+  pub not_turned_is_number_15 : Refuses (counting three) (gather_at 1) 15
+  pub turned_is_granted : Grants (open_with 1 red) (gather_at 1) (sum (pos 0))
+  pub gathered_already_is_number_16 : Refuses (open_with 1 has_gathered) (gather_at 1) 16
+  pub both_children_gathered_is_granted : Grants (root_with (pos 0)) (gather_at 0) (sum (pos 0))
+  pub left_child_not_gathered_is_number_17 : Refuses (above red has_gathered (pos 0)) (gather_at 0) 17
+  pub right_child_not_gathered_is_number_17 : Refuses (above has_gathered red (pos 0)) (gather_at 0) 17
+  pub no_right_child_is_granted : Grants (counting (has_station 0 red (has_station 1 has_gathered (house_of 2)))) (gather_at 0) (sum (pos 0))
+  pub no_child_is_granted : Grants (counting (has_station 0 red (house_of 1))) (gather_at 0) (sum (pos 0))
   -- the sum is that of all below, with its sign
-  pub sum_of_three : Grants (above (frozen_at (pos 4) true) (frozen_at (neg_ℤ (pos 1)) true) (pos 2)) (gather_at 0) (sum (pos 5))
-  -- no history reaches what follows
-  pub sum_8192 : Grants (root_with (pos 8192)) (gather_at 0) (sum (pos 8192))
-  pub sum_8193 : Refuses (root_with (pos 8193)) (gather_at 0) 23
-  pub sum_−1 : Refuses (root_with (neg_ℤ (pos 1))) (gather_at 0) 23
-  pub sum_−1_below_the_root : Grants (open_with 1 (frozen_at (neg_ℤ (pos 1)) false)) (gather_at 1) (sum (neg_ℤ (pos 1)))
-  pub stations_64 : Grants (said_to_have 64 (root_with (pos 0))) (gather_at 0) (sum (pos 0))
-  pub stations_65 : Refuses (said_to_have 65 (root_with (pos 0))) (gather_at 0) 23
-  pub one_outstanding : Refuses (has_method (box 3 1) (root_with (pos 0))) (gather_at 0) 24
-  pub one_outstanding_below_the_root : Grants (has_method (box 3 1) (open_with 1 red)) (gather_at 1) (sum (pos 0))
+  pub sum_of_three_is_granted : Grants (above (frozen_at (pos 4) true) (frozen_at (neg_ℤ (pos 1)) true) (pos 2)) (gather_at 0) (sum (pos 5))
+  pub sum_−1_below_the_root_is_granted : Grants (open_with 1 (frozen_at (neg_ℤ (pos 1)) false)) (gather_at 1) (sum (neg_ℤ (pos 1)))
+  -- the method's questions, which no history has answered no
+  pub sum_8192_is_granted : Grants (root_with (pos 8192)) (gather_at 0) (sum (pos 8192))
+  pub sum_8193_is_number_23 : Refuses (root_with (pos 8193)) (gather_at 0) 23
+  pub sum_−1_is_number_23 : Refuses (root_with (neg_ℤ (pos 1))) (gather_at 0) 23
+  pub stations_64_is_granted : Grants (said_to_have 64 (root_with (pos 0))) (gather_at 0) (sum (pos 0))
+  pub stations_65_is_number_23 : Refuses (said_to_have 65 (root_with (pos 0))) (gather_at 0) 23
+  pub one_outstanding_is_number_24 : Refuses (has_method (box 3 1) (root_with (pos 0))) (gather_at 0) 24
+  pub one_outstanding_below_the_root_is_granted : Grants (has_method (box 3 1) (open_with 1 red)) (gather_at 1) (sum (pos 0))
   -- two questions answered no: the first is told
   pub station_before_phase : Refuses three (gather_at 3) 4
   pub phase_before_turned : Refuses three (gather_at 1) 13

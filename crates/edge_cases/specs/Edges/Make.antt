@@ -25,23 +25,23 @@ abbrev pub MakeRefuses : Handed → (outstanding : ℕ) → (number : ℕ) → T
 MakeRefuses handed outstanding number = MakeSays handed outstanding (refused_with (number, 0, 0))
 
 pub record MakeEdges : Type 0 where
-  pub stations_0 : MakeRefuses (handed_for 0) 0 1
-  pub stations_1 : MakeGrants (handed_for 1) 0
-  pub stations_64 : MakeGrants (handed_for 64) 0
-  pub stations_65 : MakeRefuses (handed_for 65) 0 1
-  pub one_sheet_short : MakeRefuses (handed_sheets 3 2 3) 0 2
-  pub sheets_and_record_of_three : MakeGrants (handed_sheets 3 3 3) 0
-  pub one_sheet_more : MakeRefuses (handed_sheets 3 4 3) 0 2
-  pub record_one_short : MakeRefuses (handed_sheets 3 3 2) 0 2
-  pub record_one_more : MakeRefuses (handed_sheets 3 3 4) 0 2
-  pub no_tray_cell : MakeRefuses (handed_cells 0 1) 0 3
-  pub no_late_cell : MakeRefuses (handed_cells 1 0) 0 3
-  pub one_cell_each : MakeGrants (handed_cells 1 1) 0
-  pub cells_4096_each : MakeGrants (handed_cells 4096 4096) 0
-  pub tray_cells_4097 : MakeRefuses (handed_cells 4097 4096) 0 3
-  pub late_cells_4097 : MakeRefuses (handed_cells 4096 4097) 0 3
-  pub nothing_outstanding : MakeGrants (handed_for 3) 0
-  pub one_outstanding : MakeRefuses (handed_for 3) 1 24
+  pub stations_0_is_number_1 : MakeRefuses (handed_for 0) 0 1
+  pub stations_1_is_granted : MakeGrants (handed_for 1) 0
+  pub stations_64_is_granted : MakeGrants (handed_for 64) 0
+  pub stations_65_is_number_1 : MakeRefuses (handed_for 65) 0 1
+  pub one_sheet_short_is_number_2 : MakeRefuses (handed_sheets 3 2 3) 0 2
+  pub sheets_and_record_of_three_is_granted : MakeGrants (handed_sheets 3 3 3) 0
+  pub one_sheet_more_is_number_2 : MakeRefuses (handed_sheets 3 4 3) 0 2
+  pub record_one_short_is_number_2 : MakeRefuses (handed_sheets 3 3 2) 0 2
+  pub record_one_more_is_number_2 : MakeRefuses (handed_sheets 3 3 4) 0 2
+  pub no_tray_cell_is_number_3 : MakeRefuses (handed_cells 0 1) 0 3
+  pub no_late_cell_is_number_3 : MakeRefuses (handed_cells 1 0) 0 3
+  pub one_cell_each_is_granted : MakeGrants (handed_cells 1 1) 0
+  pub cells_4096_each_is_granted : MakeGrants (handed_cells 4096 4096) 0
+  pub tray_cells_4097_is_number_3 : MakeRefuses (handed_cells 4097 4096) 0 3
+  pub late_cells_4097_is_number_3 : MakeRefuses (handed_cells 4096 4097) 0 3
+  pub nothing_outstanding_is_granted : MakeGrants (handed_for 3) 0
+  pub one_outstanding_is_number_24 : MakeRefuses (handed_for 3) 1 24
   -- two questions answered no: the first is told
   pub stations_before_sheets : MakeRefuses (handed_sheets 65 64 65) 0 1
   pub sheets_before_cells : MakeRefuses (record { n = 3; sheets = 2; recorded = 3; tray_cells = 0; late_cells = 2 }) 0 2
