@@ -39,6 +39,8 @@ pub record GatherEdges : Type 0 where
   -- the sum is that of all below, with its sign
   pub sum_of_three_is_granted : Grants (above (frozen_at (pos 4) true) (frozen_at (neg_ℤ (pos 1)) true) (pos 2)) (gather_at 0) (sum (pos 5))
   pub sum_−1_below_the_root_is_granted : Grants (open_with 1 (frozen_at (neg_ℤ (pos 1)) false)) (gather_at 1) (sum (neg_ℤ (pos 1)))
+  -- station 63 is seven levels deep
+  pub sum_of_64_stations_is_granted : Grants (counting (has_station 0 red (has_station 1 has_gathered (has_station 2 has_gathered (has_station 63 (frozen_at (pos 1) true) (house_of 64)))))) (gather_at 0) (sum (pos 1))
   -- the method's questions, which no history has answered no
   pub sum_8192_is_granted : Grants (root_with (pos 8192)) (gather_at 0) (sum (pos 8192))
   pub sum_8193_is_number_23 : Refuses (root_with (pos 8193)) (gather_at 0) 23

@@ -37,9 +37,10 @@ pub record TakeEdges : Type 0 where
   pub deficit_−30001_is_number_8 : Refuses (under_way_to (with_deficit (neg_ℤ (pos 30000)))) (take_slip 0 1) 8
   pub deficit_30000_is_granted : Grants (under_way_to (with_deficit (pos 30001))) (take_slip 0 1) nothing
   pub deficit_30001_is_number_8 : Refuses (under_way_to (with_deficit (pos 30002))) (take_slip 0 1) 8
-  -- it is asked too of a slip of the receiver's colour while a count is open, and of any slip while none is
+  -- it is asked too of a slip of the receiver's colour while a count is open, and of any slip while none is, closed or not
   pub deficit_−30001_in_the_same_colour_is_number_8 : Refuses (counting (has_station 1 (red_with_deficit (neg_ℤ (pos 30000))) (has_tray (red_slip 1 ∷ []) three))) (take_slip 0 1) 8
   pub deficit_−30001_between_counts_is_number_8 : Refuses (under_way_to (red_with_deficit (neg_ℤ (pos 30000)))) (take_slip 0 1) 8
+  pub deficit_−30001_while_closed_is_number_8 : Refuses (closed (has_station 1 (with_deficit (neg_ℤ (pos 30000))) (has_tray (red_slip 1 ∷ []) three))) (take_slip 0 1) 8
   -- where the receiver turns first its deficit restarts at 0, and a late slip leaves it
   pub any_deficit_where_the_receiver_turns_is_granted : Grants (counting (has_station 1 (with_deficit (neg_ℤ (pos 30000))) (has_tray (red_slip 1 ∷ []) three))) (take_slip 0 1) nothing
   pub any_deficit_where_the_slip_is_late_is_granted : Grants (late_to (red_with_deficit (neg_ℤ (pos 30000)))) (take_slip 0 1) nothing
@@ -47,6 +48,7 @@ pub record TakeEdges : Type 0 where
   pub full_late_list_is_number_11 : Refuses (full_late (late_to red)) (take_slip 0 1) 11
   pub full_late_list_and_the_same_colour_is_granted : Grants (full_late (counting (has_station 1 red (has_tray (red_slip 1 ∷ []) three)))) (take_slip 0 1) nothing
   pub full_late_list_between_counts_is_granted : Grants (full_late (under_way_to red)) (take_slip 0 1) nothing
+  pub full_late_list_while_closed_is_granted : Grants (full_late (closed (under_way_to red))) (take_slip 0 1) nothing
   pub chess_figure_20000_is_granted : GrantsBy chess (has_figure 1 0 (pos 19998) (has_tray (white_slip 1 ∷ []) three)) (take_slip 0 1) nothing
   pub chess_figure_20001_is_cause_2 : RefusesBy chess (has_figure 1 0 (pos 19999) (has_tray (white_slip 1 ∷ []) three)) (take_slip 0 1) 2 0
   pub chess_amount_−1_is_cause_3 : RefusesBy chess (has_tray (slip 0 1 5 (neg_ℤ (pos 1)) White ∷ []) three) (take_slip 0 1) 3 5
