@@ -33,26 +33,26 @@ abbrev pub closed : BoxHouse → BoxHouse
 closed x = in_phase x Closed
 
 -- with another station s
-abbrev pub has_station : (s : ℕ) → Station → BoxHouse → BoxHouse
-has_station s t x = with_cells x (with_station x.cells s t)
+abbrev pub given_station : (s : ℕ) → Station → BoxHouse → BoxHouse
+given_station s t x = with_cells x (with_station x.cells s t)
 
 -- with one figure on the sheet of station s
-abbrev pub has_figure : (s line : ℕ) → ℤ → BoxHouse → BoxHouse
-has_figure s line figure x = with_cells x (with_sheet x.cells s (slice_set blank_sheet line figure))
+abbrev pub given_figure : (s line : ℕ) → ℤ → BoxHouse → BoxHouse
+given_figure s line figure x = with_cells x (with_sheet x.cells s (slice_set blank_sheet line figure))
 
 -- with other slips under way, or late
-abbrev pub has_tray : List ColouredSlip → BoxHouse → BoxHouse
-has_tray slips x = with_cells x (with_tray x.cells slips)
+abbrev pub given_tray : List ColouredSlip → BoxHouse → BoxHouse
+given_tray slips x = with_cells x (with_tray x.cells slips)
 
-abbrev pub has_late : List ColouredSlip → BoxHouse → BoxHouse
-has_late slips x = with_cells x (with_late x.cells slips)
+abbrev pub given_late : List ColouredSlip → BoxHouse → BoxHouse
+given_late slips x = with_cells x (with_late x.cells slips)
 
 -- with a method that counts so many stations and waits for so many arrivals
 abbrev pub box : (stations outstanding : ℕ) → BoxState
 box stations outstanding = record { stations = stations; outstanding = outstanding }
 
-abbrev pub has_method : BoxState → BoxHouse → BoxHouse
-has_method q x = record { phase = x.phase; cells = x.cells; method = q }
+abbrev pub given_method : BoxState → BoxHouse → BoxHouse
+given_method q x = record { phase = x.phase; cells = x.cells; method = q }
 
 -- a white station with so many posts, or with that running deficit
 abbrev pub with_posts : ℕ → Station
@@ -76,12 +76,12 @@ frozen_at z gathered = record { colour = Red; posted = 0; running = pos 0; froze
 abbrev pub reporting : ℕ → Station
 reporting k = record { colour = Red; posted = 0; running = pos 0; frozen = pos 0; unreported = k; turned = true; gathered = true }
 
-abbrev pub has_gathered : Station
-has_gathered = reporting 0
+abbrev pub red_and_gathered : Station
+red_and_gathered = reporting 0
 
 -- marked as gathered, but not as turned
-abbrev pub gathered_unturned : Station
-gathered_unturned = record { colour = White; posted = 0; running = pos 0; frozen = pos 0; unreported = 0; turned = false; gathered = true }
+abbrev pub white_but_gathered : Station
+white_but_gathered = record { colour = White; posted = 0; running = pos 0; frozen = pos 0; unreported = 0; turned = false; gathered = true }
 
 -- a slip to station 1
 abbrev pub slip : (sender number line : ℕ) → ℤ → Colour → ColouredSlip

@@ -4,7 +4,7 @@ use Rattle.sections.specs.Chess.{chess}
 use Rattle.sections.specs.Bridge.{bridge}
 use Rattle.house_rules.specs.Calls.EveryCall.{nothing}
 use Rattle.edge_cases.specs.Calls.{enter_at}
-use Rattle.edge_cases.specs.Houses.{three, counting, closed, has_figure}
+use Rattle.edge_cases.specs.Houses.{three, counting, closed, given_figure}
 use Rattle.edge_cases.specs.Said.{Grants, Refuses, GrantsBy, RefusesBy}
 
 -- result 2 is a win of the first line, which gains 2 half points
@@ -20,16 +20,16 @@ pub record EnterEdges : Type 0 where
   pub equal_lines_is_number_5 : Refuses three (enter_at 0 7 7 (pos 2)) 5
   pub chess_result_3_is_granted : GrantsBy chess three (enter_at 0 5 6 (pos 3)) nothing
   pub chess_result_4_is_cause_1 : RefusesBy chess three (enter_at 0 5 6 (pos 4)) 1 5
-  pub chess_figure_20000_is_granted : GrantsBy chess (has_figure 0 5 (pos 19998) three) (enter_at 0 5 6 (pos 2)) nothing
-  pub chess_figure_20001_is_cause_2 : RefusesBy chess (has_figure 0 5 (pos 19999) three) (enter_at 0 5 6 (pos 2)) 2 5
-  pub chess_figure_20001_of_the_second_line_is_cause_2 : RefusesBy chess (has_figure 0 6 (pos 19999) three) (enter_at 0 5 6 (pos 0)) 2 6
+  pub chess_figure_20000_is_granted : GrantsBy chess (given_figure 0 5 (pos 19998) three) (enter_at 0 5 6 (pos 2)) nothing
+  pub chess_figure_20001_is_cause_2 : RefusesBy chess (given_figure 0 5 (pos 19999) three) (enter_at 0 5 6 (pos 2)) 2 5
+  pub chess_figure_20001_of_the_second_line_is_cause_2 : RefusesBy chess (given_figure 0 6 (pos 19999) three) (enter_at 0 5 6 (pos 0)) 2 6
   pub bridge_difference_15000_is_granted : GrantsBy bridge three (enter_at 0 5 6 (pos 15000)) nothing
   pub bridge_difference_15010_is_cause_1 : RefusesBy bridge three (enter_at 0 5 6 (pos 15010)) 1 5
   pub bridge_difference_15_is_cause_1 : RefusesBy bridge three (enter_at 0 5 6 (pos 15)) 1 5
   -- 20 points are 1 IMP
-  pub bridge_figure_20000_is_granted : GrantsBy bridge (has_figure 0 5 (pos 19999) three) (enter_at 0 5 6 (pos 20)) nothing
-  pub bridge_figure_20001_is_cause_2 : RefusesBy bridge (has_figure 0 5 (pos 20000) three) (enter_at 0 5 6 (pos 20)) 2 5
-  pub bridge_figure_−20001_of_the_second_line_is_cause_2 : RefusesBy bridge (has_figure 0 6 (neg_ℤ (pos 20000)) three) (enter_at 0 5 6 (pos 20)) 2 6
+  pub bridge_figure_20000_is_granted : GrantsBy bridge (given_figure 0 5 (pos 19999) three) (enter_at 0 5 6 (pos 20)) nothing
+  pub bridge_figure_20001_is_cause_2 : RefusesBy bridge (given_figure 0 5 (pos 20000) three) (enter_at 0 5 6 (pos 20)) 2 5
+  pub bridge_figure_−20001_of_the_second_line_is_cause_2 : RefusesBy bridge (given_figure 0 6 (neg_ℤ (pos 20000)) three) (enter_at 0 5 6 (pos 20)) 2 6
   -- two questions answered no: the first is told
   pub station_before_lines : Refuses three (enter_at 3 7 7 (pos 2)) 4
   pub lines_before_the_section : Refuses three (enter_at 0 7 7 (pos 4)) 5

@@ -2,12 +2,12 @@
 use Rattle.std.specs.Prelude.{ℕ, List, [], ◌∷◌, ◌++◌, replicate, codes}
 use Rattle.house_rules.specs.Calls.EveryCall.{filed}
 use Rattle.edge_cases.specs.Calls.{file_text}
-use Rattle.edge_cases.specs.Houses.{BoxHouse, three, counting, closed, has_late, white_slip}
+use Rattle.edge_cases.specs.Houses.{BoxHouse, three, counting, closed, given_late, white_slip}
 use Rattle.edge_cases.specs.Said.{Grants, Refuses}
 
 -- a blank record, and one late slip of 2 half points of line 0
 abbrev pub one_late_slip : BoxHouse
-one_late_slip = has_late (white_slip 1 ∷ []) three
+one_late_slip = given_late (white_slip 1 ∷ []) three
 
 -- its text has 29 bytes
 abbrev pub its_text : List ℕ
