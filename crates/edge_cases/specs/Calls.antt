@@ -1,15 +1,16 @@
 -- The calls of a house, one definition each.
 use Rattle.std.specs.Prelude.{ℕ, List, ℤ}
-use Rattle.house_rules.specs.Calls.EveryCall.{Call, enter, post, take, open', turn, gather, report, close, file}
+use Rattle.house_rules.specs.Calls.EveryCall.{Call, event, open', turn, gather, report, close, file}
+use Rattle.house_rules.specs.Calls.Event.{enter, post, take}
 
 abbrev pub enter_at : (station a b : ℕ) (r : ℤ) → Call
-enter_at s a b r = enter s a b r
+enter_at s a b r = event (enter s a b r)
 
 abbrev pub post_from : (station to line : ℕ) (amount : ℤ) → Call
-post_from s to line amount = post s to line amount
+post_from s to line amount = event (post s to line amount)
 
 abbrev pub take_slip : (sender number : ℕ) → Call
-take_slip a b = take a b
+take_slip a b = event (take a b)
 
 abbrev pub open_at : (station : ℕ) → Call
 open_at s = open' s

@@ -10,7 +10,7 @@ use Rattle.house_rules.specs.State.House.{HouseState}
 use Rattle.house_rules.specs.Calls.Make.{Handed, made_house}
 use Rattle.house_rules.specs.Calls.EveryCall.{Call, nothing, number, sum, sent, receipt, filed}
 use Rattle.house_rules.specs.Theorem.Histories.{make, done, run, Response, refused_with, granted, responses, granted_among}
-use Rattle.house_rules.specs.Theorem.PlainHouse.{enters, posts, takes}
+use Rattle.house_rules.specs.Calls.Event.{enter, post, take}
 use Rattle.house_rules.specs.Theorem.Cut.{cut_of}
 use Rattle.edge_cases.specs.Calls.{enter_at, post_from, take_slip, open_at, turn_at, gather_at, report_at, close_count, file_text}
 
@@ -141,6 +141,6 @@ pub record ThirdWorkedHistory : Type 0 where
   pub sheets : (run tree_model bridge third_house third_calls).cells.sheets ≡ slice_set blank_sheet 0 (pos 1) ∷ slice_set blank_sheet 0 (neg_ℤ (pos 1)) ∷ slice_set blank_sheet 31 (neg_ℤ (pos 5)) ∷ slice_set (slice_set blank_sheet 0 (pos 3)) 2 (neg_ℤ (pos 2)) ∷ slice_set blank_sheet 3 (pos 2) ∷ slice_set (slice_set (slice_set blank_sheet 0 (pos 6)) 1 (neg_ℤ (pos 9))) 7 (neg_ℤ (pos 3)) ∷ slice_set (slice_set (slice_set blank_sheet 4 (pos 14)) 7 (pos 3)) 31 (neg_ℤ (pos 10)) ∷ []
   -- posted after its sender's turn, and still under way when the count is filed
   pub under_way : slips_of (run tree_model bridge third_house third_calls).cells.tray ≡ record { sender = 2; number = 1; receiver = 6; line = 31; amount = pos 1 } ∷ []
-  pub before : (cut_of (granted_among tree_model bridge third_house third_calls)).before ≡ enters 3 0 1 (pos 420) ∷ enters 4 2 3 (neg_ℤ (pos 50)) ∷ enters 6 4 31 (pos 1000) ∷ posts 3 5 1 (neg_ℤ (pos 9)) ∷ posts 3 5 0 (pos 4) ∷ posts 4 4 3 (pos 5) ∷ posts 6 2 31 (neg_ℤ (pos 4)) ∷ takes 3 2 ∷ posts 1 0 0 (pos 1) ∷ []
-  pub after : (cut_of (granted_among tree_model bridge third_house third_calls)).after ≡ takes 6 1 ∷ takes 4 1 ∷ posts 4 3 2 (neg_ℤ (pos 2)) ∷ posts 5 6 7 (pos 3) ∷ takes 4 2 ∷ posts 3 5 0 (pos 2) ∷ takes 3 3 ∷ takes 3 1 ∷ takes 5 1 ∷ takes 1 1 ∷ posts 2 6 31 (pos 1) ∷ []
+  pub before : (cut_of (granted_among tree_model bridge third_house third_calls)).before ≡ enter 3 0 1 (pos 420) ∷ enter 4 2 3 (neg_ℤ (pos 50)) ∷ enter 6 4 31 (pos 1000) ∷ post 3 5 1 (neg_ℤ (pos 9)) ∷ post 3 5 0 (pos 4) ∷ post 4 4 3 (pos 5) ∷ post 6 2 31 (neg_ℤ (pos 4)) ∷ take 3 2 ∷ post 1 0 0 (pos 1) ∷ []
+  pub after : (cut_of (granted_among tree_model bridge third_house third_calls)).after ≡ take 6 1 ∷ take 4 1 ∷ post 4 3 2 (neg_ℤ (pos 2)) ∷ post 5 6 7 (pos 3) ∷ take 4 2 ∷ post 3 5 0 (pos 2) ∷ take 3 3 ∷ take 3 1 ∷ take 5 1 ∷ take 1 1 ∷ post 2 6 31 (pos 1) ∷ []
   pub phase : (run tree_model bridge third_house third_calls).phase ≡ Ready
