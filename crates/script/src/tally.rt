@@ -2,7 +2,7 @@ ghost use Rattle.std.specs.Prelude.{◌≡◌, IfOk, string_bytes, OnErr};
 ghost use Rattle.std.specs.Option.{option_copied};
 ghost use Rattle.sections.specs.Rule.{blank_sheet};
 ghost use Rattle.script.specs.Rounds.{waiting, playing, answer_code, played, end_text};
-ghost use Rattle.script.specs.Tallied.{round_of};
+ghost use Rattle.script.specs.Tallied.{tally_state};
 
 use crate::entries::enter_line;
 use crate::refusal::Refusal;
@@ -22,14 +22,14 @@ pub enum Tally {
 
 impl Tally {
     pub fn new() -> Tally
-        ensures { round_of result ≡ waiting }
+        ensures { tally_state result ≡ waiting }
     {
         Tally::Waiting
     }
 
     // A round of that kind, with nothing scored.
     fn of_kind(kind: Kind) -> Tally
-        ensures { round_of result ≡ playing kind blank_sheet }
+        ensures { tally_state result ≡ playing kind blank_sheet }
     {
         match kind {
             Kind::Chess => Tally::Chess(Chess::blank()),
@@ -40,7 +40,7 @@ impl Tally {
     // Plays one line; None stands for a line that is too long.
     #[tactic(auto, using(crate::proofs::Plays::line_granted, crate::proofs::Plays::line_refused))]
     pub fn play(&mut self, line: Option<&[u8]>) -> Result<(), Refusal>
-        ensures does { (round_of self.new, answer_code result) ≡ played (round_of self.old) (option_copied line.entry) }
+        ensures does { (tally_state self.new, answer_code result) ≡ played (tally_state self.old) (option_copied line.entry) }
         ensures keeps { OnErr result (self.new ≡ self.old) }
     {
         let bytes = line.ok_or(Refusal::Malformed)?;
@@ -54,7 +54,7 @@ impl Tally {
 
     // The scores at the end.
     pub fn end_text(&self, heap: Global) -> Result<String, AllocError>
-        ensures { IfOk result (λ s. string_bytes s ≡ end_text (round_of self.now)) }
+        ensures { IfOk result (λ s. string_bytes s ≡ end_text (tally_state self.now)) }
     {
         match self {
             Tally::Waiting => Ok(String::new(heap)),

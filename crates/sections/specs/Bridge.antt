@@ -6,9 +6,13 @@ use Rattle.common.specs.Questions.{ask}
 use Rattle.sections.specs.Rule.{Rule, SectionQuestions, good_lines, figure_at}
 use Rattle.sections.specs.Pairs.{is_figure, pair_gains}
 
+-- the largest difference in points that a board can have
+abbrev pub largest_difference : ℕ
+largest_difference = 15000
+
 -- a result is the difference in points at a board: a multiple of ten from -15,000 to 15,000
 abbrev pub is_difference : ℤ → Bool
-is_difference r = up_to (pos 15000) r && unsigned_abs r % 10 == 0
+is_difference r = up_to (pos largest_difference) r && unsigned_abs r % 10 == 0
 
 -- the largest difference for 0, 1, 2, .. 23 IMPs
 abbrev pub limits : List ℕ
@@ -27,7 +31,7 @@ imps r = cond (int_lt r (pos 0)) (neg_ℤ (pos (passed limits (unsigned_abs r)))
 
 -- the IMPs of a difference by its size, where a board can have it
 abbrev pub scale : ℕ → Option ℤ
-scale size = cond (nat_le size 15000 && size % 10 == 0) (Some (pos (passed limits size))) None
+scale size = cond (nat_le size largest_difference && size % 10 == 0) (Some (pos (passed limits size))) None
 
 -- what each line gains, where there is such a difference
 abbrev pub both_imps : ℤ → Option (ℤ × ℤ)
