@@ -1,20 +1,24 @@
 -- MethodIsToldTheTruth: every granted call does to the method and the messages of a house what it does to the replay.
-use Rattle.std.proofs.Common.{◌≡◌, ℕ, Bool, true, false, cond, eqb, List, [], ◌∷◌, length, nat_abs, Some, None, Option, sym, refl, ap, ◌∙◌}
+use Rattle.std.proofs.Common.{◌≡◌, ℕ, Bool, true, false, cond, eqb, List, [], ◌∷◌, length, nat_abs, Some, None, Option, sym, refl, ap, ◌∙◌, pos, subst}
+use Rattle.std.proofs.lemmas.Bool.{and_parts}
 use Rattle.sections.specs.Rule.{Rule}
-use Rattle.methods.specs.Model.{Model}
+use Rattle.methods.specs.Model.{Model, begin_questions}
 use Rattle.common.specs.Questions.{first_no}
 use Rattle.house_rules.specs.declared.phase.Phase.{Phase}
 use Rattle.house_rules.specs.declared.slip.ColouredSlip.{ColouredSlip}
-use Rattle.house_rules.specs.Calls.EveryCall.{Call, questions, after, reply, open', turn, gather, report, close, file, sent, receipt, event}
+use Rattle.house_rules.specs.Calls.EveryCall.{Call, questions, after, reply, open', turn, gather, report, close, file, sum, sent, receipt, event}
 use Rattle.house_rules.specs.Calls.Event.{enter, post, take}
-use Rattle.house_rules.specs.Calls.Gather.{sum_at, gathered_cells, root_gathers, after_gather}
+use Rattle.house_rules.specs.Calls.Gather.{gather_questions, sum_at, gathered_cells, root_gathers, after_gather}
 use Rattle.house_rules.specs.Calls.Take.{is_late, turns_receiver, arrives, arrives_late, taken_cells, under_way}
 use Rattle.house_rules.specs.Calls.Turn.{turns}
 use Rattle.house_rules.specs.State.Changes.{with_cells}
 use Rattle.house_rules.specs.State.House.{Cells, HouseState}
 use Rattle.house_rules.specs.Theorem.Histories.{outcome, next, run, responses, response_of, History}
+use Rattle.house_rules.specs.Theorem.Messages.{gathered_told}
 use Rattle.house_rules.specs.Theorem.Replay.{Replay, begins, replay_call, replay_response, replay, replayed, ToldTheTruth, MethodIsToldTheTruth}
 use Rattle.house_rules.proofs.Statements.EveryHistory.{made_yes}
+use Rattle.house_rules.proofs.Calls.MethodQuestions.{fits_begin}
+use Rattle.common.proofs.AllYes.{all_yes_lem, yes_parts}
 use Rattle.house_rules.proofs.Calls.Outcome.{outcome_answer, step_done}
 
 -- what a replay of a house has come to
@@ -76,6 +80,11 @@ module _ (m : Model) (rule : Rule) where
   told x r e =
       record {
         method = ap (λ (t : Replay m.State). t.method) e;
+        sums = λ y answer answered.
+            let y' = all_yes_lem (questions m rule x (gather 0)) (step_done m rule x (gather 0) y answer answered).0 in
+            let z = (yes_parts (gather_questions x.phase x.cells 0) (begin_questions (m.rules.outstanding x.method) x.cells.n (sum_at x.cells 0)) y').1 in
+            let w = (fits_begin (sum_at x.cells 0) (and_parts _ _ z.0).1).0 in
+            subst (λ a. a ≡ sum (pos (gathered_told a))) (outcome_answer (first_no (questions m rule x (gather 0))) (after m rule x (gather 0)) y (reply m x (gather 0)) answer answered) (ap (λ k. sum k) (sym w));
         reports = λ s y answer answered.
             sym (outcome_answer (first_no (questions m rule x (report s))) (after m rule x (report s)) y (reply m x (report s)) answer answered)
             ∙ ap (λ (t : Replay m.State). sent (m.rules.arrived_sent t.method s)) e;

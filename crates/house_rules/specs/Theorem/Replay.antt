@@ -1,9 +1,9 @@
 -- The counting method of a house, replayed: read off the calls and what their callers were told, by the method's model.
-use Rattle.std.specs.Prelude.{◌≡◌, ℕ, ◌+◌, cond, List, [], ◌∷◌, length, ◌==◌}
+use Rattle.std.specs.Prelude.{◌≡◌, ℕ, ◌+◌, cond, List, [], ◌∷◌, length, pos, ◌==◌}
 use Rattle.sections.specs.Rule.{Rule}
 use Rattle.methods.specs.Model.{Model}
 use Rattle.house_rules.specs.State.House.{HouseState}
-use Rattle.house_rules.specs.Calls.EveryCall.{Call, Answer, open', turn, gather, report, close, file, sent, receipt, event}
+use Rattle.house_rules.specs.Calls.EveryCall.{Call, Answer, open', turn, gather, report, close, file, sum, sent, receipt, event}
 use Rattle.house_rules.specs.Theorem.Histories.{Response, refused_with, granted, responses, step, done, History}
 use Rattle.house_rules.specs.Theorem.Messages.{gathered_told}
 
@@ -51,10 +51,12 @@ abbrev pub replayed : (m : Model) (rule : Rule) (x : HouseState m.State) → His
 replayed m rule x history =
     replay m history.handed.n (record { method = history.method; messages = 0 }) history.calls (responses m rule history.first history.calls)
 
--- The method of a house is in the state of the replay. A granted report answers what its model sends in that state, and a
--- granted close tells the late slips of the count and the messages of the replay
+-- The method of a house is in the state of the replay. What the root's granted gather answers is never negative, so the
+-- method is told that very sum; a granted report answers what the model sends in the state of the replay, and a granted
+-- close tells the late slips of the count and the messages of the replay
 pub record ToldTheTruth (m : Model) (rule : Rule) (x : HouseState m.State) (r : Replay m.State) : Type 0 where
   pub method : x.method ≡ r.method
+  pub sums : (y : HouseState m.State) (answer : Answer) → step m rule x (gather 0) ≡ done y answer → answer ≡ sum (pos (gathered_told answer))
   pub reports : (s : ℕ) (y : HouseState m.State) (answer : Answer) → step m rule x (report s) ≡ done y answer → answer ≡ sent (m.rules.arrived_sent r.method s)
   pub closes : (y : HouseState m.State) (answer : Answer) → step m rule x close ≡ done y answer → answer ≡ receipt (length y.cells.late) r.messages
 
