@@ -8,5 +8,6 @@ pub mod CloseIsExact
 pub mod MethodsAgree
 pub mod CountsStay
 pub mod CloseTellsTheMessages
+pub mod MethodIsToldTheTruth
 pub mod MessagesAreFew
 pub mod WorkedHistory

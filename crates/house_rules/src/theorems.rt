@@ -1,6 +1,7 @@
 // What is proved of every history of a house: each function's contract names one statement.
 ghost use Rattle.house_rules.specs.Theorem.Statements.{HouseIsItsPlainRun, CountsAreConsistent, ScoresAreGains, CloseIsExact, MethodRefusesNothing, MethodsAgree, CountsStay};
 ghost use Rattle.house_rules.specs.Theorem.Messages.{CloseTellsTheMessages, MessagesAreFew};
+ghost use Rattle.house_rules.specs.Theorem.Replay.{MethodIsToldTheTruth};
 ghost use Rattle.house_rules.specs.Theorem.WorkedHistory.{WorkedHistory};
 
 use methods::Method;
@@ -44,6 +45,12 @@ pub fn counts_stay<M: Method>()
 // A granted close tells the late slips of the count and the control messages that its begin and its reports sent.
 pub fn close_tells_the_messages<M: Method>()
     ensures { CloseTellsTheMessages M.Method.model }
+{}
+
+// At every time the house's method is in the state that its model comes to when it is replayed from the granted calls and
+// their answers, and the messages that reports and close tell are those that the replay sends.
+pub fn method_is_told_the_truth<M: Method>()
+    ensures { MethodIsToldTheTruth M.Method.model }
 {}
 
 // A granted close tells at most 1,000 messages for each late slip, and 1,000 more.
