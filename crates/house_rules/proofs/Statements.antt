@@ -9,4 +9,5 @@ pub mod MethodsAgree
 pub mod CountsStay
 pub mod CloseTellsTheMessages
 pub mod MessagesAreFew
+pub mod PostTells
 pub mod WorkedHistory

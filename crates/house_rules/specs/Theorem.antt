@@ -4,4 +4,5 @@ pub mod Cut
 pub mod Progress
 pub mod Statements
 pub mod Messages
+pub mod Posts
 pub mod WorkedHistory
