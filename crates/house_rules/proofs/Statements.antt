@@ -10,4 +10,5 @@ pub mod CountsStay
 pub mod CloseTellsTheMessages
 pub mod MethodIsToldTheTruth
 pub mod MessagesAreFew
+pub mod PostTells
 pub mod WorkedHistory

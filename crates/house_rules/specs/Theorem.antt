@@ -5,4 +5,5 @@ pub mod Progress
 pub mod Statements
 pub mod Messages
 pub mod Replay
+pub mod Posts
 pub mod WorkedHistory

@@ -2,6 +2,7 @@
 ghost use Rattle.house_rules.specs.Theorem.Statements.{HouseIsItsPlainRun, CountsAreConsistent, ScoresAreGains, CloseIsExact, MethodRefusesNothing, MethodsAgree, CountsStay};
 ghost use Rattle.house_rules.specs.Theorem.Messages.{CloseTellsTheMessages, MessagesAreFew};
 ghost use Rattle.house_rules.specs.Theorem.Replay.{MethodIsToldTheTruth};
+ghost use Rattle.house_rules.specs.Theorem.Posts.{PostTells};
 ghost use Rattle.house_rules.specs.Theorem.WorkedHistory.{WorkedHistory};
 
 use methods::Method;
@@ -56,6 +57,12 @@ pub fn method_is_told_the_truth<M: Method>()
 // A granted close tells at most 1,000 messages for each late slip, and 1,000 more.
 pub fn messages_are_few<M: Method>()
     ensures { MessagesAreFew M.Method.model }
+{}
+
+// A granted post answers the number by which its slip, and no other slip of the house, is then named: one more than its
+// station's posts before.
+pub fn post_tells<M: Method>()
+    ensures { PostTells M.Method.model }
 {}
 
 // A history of two counts, worked through: late slips, a take that turns its receiver, a close refused before the reports
