@@ -55,7 +55,7 @@ third_turning =
     ∷ take_slip 5 1
     ∷ []
 
--- the count is gathered, reported, closed and filed; the text has 224 bytes
+-- the count is gathered, reported, closed and filed, with a post between close and file; the text has 224 bytes
 abbrev pub third_ending : List Call
 third_ending =
     gather_at 1
@@ -75,6 +75,7 @@ third_ending =
     ∷ post_from 2 6 31 (pos 1)
     ∷ report_at 5
     ∷ close_count
+    ∷ post_from 5 2 0 (pos 1)
     ∷ file_text 4 (replicate 223 0)
     ∷ file_text 4 (replicate 228 0)
     ∷ []
@@ -128,6 +129,7 @@ third_responses =
     ∷ granted (number 1)
     ∷ granted (sent 19)
     ∷ granted (receipt 4 39)
+    ∷ granted (number 2)
     ∷ refused_with (22, 0, 0)
     ∷ granted (filed 224 (third_text ++ (0 ∷ 0 ∷ 0 ∷ 0 ∷ [])))
     ∷ []
@@ -138,9 +140,9 @@ pub record ThirdWorkedHistory : Type 0 where
   pub recorded : (run tree_model bridge third_house third_calls).cells.recorded ≡ blank_sheet ∷ slice_set blank_sheet 0 (neg_ℤ (pos 1)) ∷ blank_sheet ∷ slice_set blank_sheet 0 (pos 5) ∷ slice_set (slice_set blank_sheet 2 (neg_ℤ (pos 2))) 3 (neg_ℤ (pos 3)) ∷ slice_set blank_sheet 0 (pos 4) ∷ slice_set (slice_set blank_sheet 4 (pos 14)) 31 (neg_ℤ (pos 10)) ∷ []
   pub late : slips_of (run tree_model bridge third_house third_calls).cells.late ≡ record { sender = 6; number = 1; receiver = 2; line = 31; amount = neg_ℤ (pos 4) } ∷ record { sender = 4; number = 1; receiver = 4; line = 3; amount = pos 5 } ∷ record { sender = 3; number = 1; receiver = 5; line = 1; amount = neg_ℤ (pos 9) } ∷ record { sender = 1; number = 1; receiver = 0; line = 0; amount = pos 1 } ∷ []
   -- what the sheets hold at the end
-  pub sheets : (run tree_model bridge third_house third_calls).cells.sheets ≡ slice_set blank_sheet 0 (pos 1) ∷ slice_set blank_sheet 0 (neg_ℤ (pos 1)) ∷ slice_set blank_sheet 31 (neg_ℤ (pos 5)) ∷ slice_set (slice_set blank_sheet 0 (pos 3)) 2 (neg_ℤ (pos 2)) ∷ slice_set blank_sheet 3 (pos 2) ∷ slice_set (slice_set (slice_set blank_sheet 0 (pos 6)) 1 (neg_ℤ (pos 9))) 7 (neg_ℤ (pos 3)) ∷ slice_set (slice_set (slice_set blank_sheet 4 (pos 14)) 7 (pos 3)) 31 (neg_ℤ (pos 10)) ∷ []
-  -- posted after its sender's turn, and still under way when the count is filed
-  pub under_way : slips_of (run tree_model bridge third_house third_calls).cells.tray ≡ record { sender = 2; number = 1; receiver = 6; line = 31; amount = pos 1 } ∷ []
+  pub sheets : (run tree_model bridge third_house third_calls).cells.sheets ≡ slice_set blank_sheet 0 (pos 1) ∷ slice_set blank_sheet 0 (neg_ℤ (pos 1)) ∷ slice_set blank_sheet 31 (neg_ℤ (pos 5)) ∷ slice_set (slice_set blank_sheet 0 (pos 3)) 2 (neg_ℤ (pos 2)) ∷ slice_set blank_sheet 3 (pos 2) ∷ slice_set (slice_set (slice_set blank_sheet 0 (pos 5)) 1 (neg_ℤ (pos 9))) 7 (neg_ℤ (pos 3)) ∷ slice_set (slice_set (slice_set blank_sheet 4 (pos 14)) 7 (pos 3)) 31 (neg_ℤ (pos 10)) ∷ []
+  -- posted after their senders' turns, and still under way when the count is filed
+  pub under_way : slips_of (run tree_model bridge third_house third_calls).cells.tray ≡ record { sender = 2; number = 1; receiver = 6; line = 31; amount = pos 1 } ∷ record { sender = 5; number = 2; receiver = 2; line = 0; amount = pos 1 } ∷ []
   pub before : (cut_of (granted_among tree_model bridge third_house third_calls)).before ≡ enters 3 0 1 (pos 420) ∷ enters 4 2 3 (neg_ℤ (pos 50)) ∷ enters 6 4 31 (pos 1000) ∷ posts 3 5 1 (neg_ℤ (pos 9)) ∷ posts 3 5 0 (pos 4) ∷ posts 4 4 3 (pos 5) ∷ posts 6 2 31 (neg_ℤ (pos 4)) ∷ takes 3 2 ∷ posts 1 0 0 (pos 1) ∷ []
-  pub after : (cut_of (granted_among tree_model bridge third_house third_calls)).after ≡ takes 6 1 ∷ takes 4 1 ∷ posts 4 3 2 (neg_ℤ (pos 2)) ∷ posts 5 6 7 (pos 3) ∷ takes 4 2 ∷ posts 3 5 0 (pos 2) ∷ takes 3 3 ∷ takes 3 1 ∷ takes 5 1 ∷ takes 1 1 ∷ posts 2 6 31 (pos 1) ∷ []
+  pub after : (cut_of (granted_among tree_model bridge third_house third_calls)).after ≡ takes 6 1 ∷ takes 4 1 ∷ posts 4 3 2 (neg_ℤ (pos 2)) ∷ posts 5 6 7 (pos 3) ∷ takes 4 2 ∷ posts 3 5 0 (pos 2) ∷ takes 3 3 ∷ takes 3 1 ∷ takes 5 1 ∷ takes 1 1 ∷ posts 2 6 31 (pos 1) ∷ posts 5 2 0 (pos 1) ∷ []
   pub phase : (run tree_model bridge third_house third_calls).phase ≡ Ready
