@@ -35,7 +35,7 @@ third_before_the_open =
     ∷ take_slip 3 2
     ∷ []
 
--- stations 2, 4, 5, 3, 6, 0 and 1 turn in some order, stations 3 and 6 by a take; the slip of station 4 to itself is late
+-- stations 2, 4, 5, 3, 0, 1 and 6 turn in this order, stations 3 and 6 by a take; the slip of station 4 to itself is late
 abbrev pub third_turning : List Call
 third_turning =
     open_at 2
