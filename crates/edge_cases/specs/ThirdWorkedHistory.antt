@@ -1,10 +1,11 @@
 -- A history of one count, worked through: bridge, the token tree, seven stations. Stations 1 and 2 are the children of
 -- station 0, stations 3 and 4 those of station 1, stations 5 and 6 those of station 2.
-use Rattle.std.specs.Prelude.{◌≡◌, ℕ, List, [], ◌∷◌, ◌++◌, replicate, pos, neg_ℤ, codes, slice_set}
+use Rattle.std.specs.Prelude.{◌≡◌, ℕ, List, [], ◌∷◌, ◌++◌, map, replicate, pos, neg_ℤ, codes, slice_set}
 use Rattle.sections.specs.Rule.{blank_sheet}
 use Rattle.sections.specs.Bridge.{bridge}
 use Rattle.methods.specs.Tree.{tree_model}
 use Rattle.house_rules.specs.declared.phase.Phase.TheVariants.{Ready}
+use Rattle.house_rules.specs.declared.station.Station.{Station}
 use Rattle.house_rules.specs.State.Names.{slips_of}
 use Rattle.house_rules.specs.State.House.{HouseState}
 use Rattle.house_rules.specs.Calls.Make.{Handed, made_house}
@@ -141,6 +142,9 @@ pub record ThirdWorkedHistory : Type 0 where
   pub late : slips_of (run tree_model bridge third_house third_calls).cells.late ≡ record { sender = 6; number = 1; receiver = 2; line = 31; amount = neg_ℤ (pos 4) } ∷ record { sender = 4; number = 1; receiver = 4; line = 3; amount = pos 5 } ∷ record { sender = 3; number = 1; receiver = 5; line = 1; amount = neg_ℤ (pos 9) } ∷ record { sender = 1; number = 1; receiver = 0; line = 0; amount = pos 1 } ∷ []
   -- what the sheets hold at the end
   pub sheets : (run tree_model bridge third_house third_calls).cells.sheets ≡ slice_set blank_sheet 0 (pos 1) ∷ slice_set blank_sheet 0 (neg_ℤ (pos 1)) ∷ slice_set blank_sheet 31 (neg_ℤ (pos 5)) ∷ slice_set (slice_set blank_sheet 0 (pos 3)) 2 (neg_ℤ (pos 2)) ∷ slice_set blank_sheet 3 (pos 2) ∷ slice_set (slice_set (slice_set blank_sheet 0 (pos 5)) 1 (neg_ℤ (pos 9))) 7 (neg_ℤ (pos 3)) ∷ slice_set (slice_set (slice_set blank_sheet 4 (pos 14)) 7 (pos 3)) 31 (neg_ℤ (pos 10)) ∷ []
+  -- and the deficits of the stations
+  pub running : map (λ (t : Station). t.running) (run tree_model bridge third_house third_calls).cells.stations ≡ pos 0 ∷ pos 0 ∷ pos 1 ∷ pos 0 ∷ pos 1 ∷ pos 1 ∷ neg_ℤ (pos 1) ∷ []
+  pub frozen : map (λ (t : Station). t.frozen) (run tree_model bridge third_house third_calls).cells.stations ≡ pos 0 ∷ pos 1 ∷ pos 0 ∷ pos 2 ∷ pos 1 ∷ neg_ℤ (pos 1) ∷ pos 1 ∷ []
   -- posted after their senders' turns, and still under way when the count is filed
   pub under_way : slips_of (run tree_model bridge third_house third_calls).cells.tray ≡ record { sender = 2; number = 1; receiver = 6; line = 31; amount = pos 1 } ∷ record { sender = 5; number = 2; receiver = 2; line = 0; amount = pos 1 } ∷ []
   pub before : (cut_of (granted_among tree_model bridge third_house third_calls)).before ≡ enters 3 0 1 (pos 420) ∷ enters 4 2 3 (neg_ℤ (pos 50)) ∷ enters 6 4 31 (pos 1000) ∷ posts 3 5 1 (neg_ℤ (pos 9)) ∷ posts 3 5 0 (pos 4) ∷ posts 4 4 3 (pos 5) ∷ posts 6 2 31 (neg_ℤ (pos 4)) ∷ takes 3 2 ∷ posts 1 0 0 (pos 1) ∷ []
