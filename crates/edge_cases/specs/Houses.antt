@@ -8,7 +8,7 @@ use Rattle.house_rules.specs.declared.phase.Phase.TheVariants.{Counting, Closed}
 use Rattle.house_rules.specs.declared.slip.ColouredSlip.{ColouredSlip}
 use Rattle.house_rules.specs.declared.station.Station.{Station}
 use Rattle.house_rules.specs.State.House.{HouseState}
-use Rattle.house_rules.specs.State.Changes.{with_sheet, with_station, with_tray, with_late, with_cells, in_phase}
+use Rattle.house_rules.specs.State.Changes.{with_sheet, with_station, with_tray, with_late, with_messages, with_cells, in_phase}
 use Rattle.house_rules.specs.Calls.Make.{Handed, made_house}
 
 abbrev pub BoxHouse : Type 0
@@ -46,6 +46,10 @@ given_tray slips x = with_cells x (with_tray x.cells slips)
 
 abbrev pub given_late : List ColouredSlip → BoxHouse → BoxHouse
 given_late slips x = with_cells x (with_late x.cells slips)
+
+-- with so many control messages since the open
+abbrev pub given_messages : ℕ → BoxHouse → BoxHouse
+given_messages k x = with_cells x (with_messages x.cells k)
 
 -- with a method that counts so many stations and waits for so many arrivals
 abbrev pub box : (stations outstanding : ℕ) → BoxState

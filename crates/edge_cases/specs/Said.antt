@@ -1,10 +1,10 @@
 -- What a house says to a call: the answer, or the whole refusal.
-use Rattle.std.specs.Prelude.{◌≡◌, ℕ}
+use Rattle.std.specs.Prelude.{◌≡◌, ℕ, List}
 use Rattle.sections.specs.Rule.{Rule}
 use Rattle.sections.specs.Chess.{chess}
 use Rattle.methods.specs.Box.{box_model}
 use Rattle.house_rules.specs.Calls.EveryCall.{Call, Answer}
-use Rattle.house_rules.specs.Theorem.Histories.{step, Response, refused_with, granted, response_of}
+use Rattle.house_rules.specs.Theorem.Histories.{step, Response, refused_with, granted, response_of, responses}
 use Rattle.edge_cases.specs.Houses.{BoxHouse}
 
 abbrev pub Says : Rule → BoxHouse → Call → Response → Type 0
@@ -23,3 +23,7 @@ Grants x call answer = GrantsBy chess x call answer
 
 abbrev pub Refuses : BoxHouse → Call → (number : ℕ) → Type 0
 Refuses x call number = Says chess x call (refused_with (number, 0, 0))
+
+-- over chess: what is said to one call after another
+abbrev pub SaysInTurn : BoxHouse → List Call → List Response → Type 0
+SaysInTurn x calls said = responses box_model chess x calls ≡ said

@@ -11,4 +11,4 @@ use Rattle.edge_cases.proofs.third_worked_history.Goals as goal
 
 pub returns : goal.returns
 unfolding digits dealt climb turned_yellow arrival sums sheet_lines record_lines slip_lines score_lines
-returns c = record { made = refl; answered = refl; recorded = refl; late = refl; sheets = refl; under_way = refl; before = refl; after = refl; phase = refl }
+returns c = record { made = refl; answered = refl; recorded = refl; late = refl; sheets = refl; running = refl; frozen = refl; under_way = refl; before = refl; after = refl; phase = refl }

@@ -40,6 +40,7 @@ pub record TakeEdges : Type 0 where
   -- it is asked too of a slip of the receiver's colour while a count is open, and of any slip while none is, closed or not
   pub deficit_−30001_in_the_same_colour_is_number_8 : Refuses (counting (given_station 1 (red_with_deficit (neg_ℤ (pos 30000))) (given_tray (red_slip 1 ∷ []) three))) (take_slip 0 1) 8
   pub deficit_−30001_between_counts_is_number_8 : Refuses (under_way_to (red_with_deficit (neg_ℤ (pos 30000)))) (take_slip 0 1) 8
+  pub deficit_−30001_before_its_turn_between_counts_is_number_8 : Refuses (given_station 1 (with_deficit (neg_ℤ (pos 30000))) (given_tray (red_slip 1 ∷ []) three)) (take_slip 0 1) 8
   pub deficit_−30001_while_closed_is_number_8 : Refuses (closed (given_station 1 (with_deficit (neg_ℤ (pos 30000))) (given_tray (red_slip 1 ∷ []) three))) (take_slip 0 1) 8
   -- where the receiver turns first its deficit restarts at 0, and a late slip leaves it
   pub any_deficit_where_the_receiver_turns_is_granted : Grants (counting (given_station 1 (with_deficit (neg_ℤ (pos 30000))) (given_tray (red_slip 1 ∷ []) three))) (take_slip 0 1) nothing
