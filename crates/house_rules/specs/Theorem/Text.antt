@@ -1,7 +1,7 @@
 -- The text of a count says everything: it has a line for each figure, slip and score, and is read back.
-use Rattle.std.specs.Prelude.{◌≡◌, ℕ, not, List, [], ◌++◌, length, ℤ, codes, ◌==◌, slice_index_or, unsigned_abs}
-use Rattle.std.specs.List.{filter, flat_map, range_with_len}
-use Rattle.common.specs.Limits.{line_count}
+use Rattle.std.specs.Prelude.{◌≡◌, ℕ, ◌^◌, ◌<◌, ◌≤◌, not, List, [], ◌++◌, length, ℤ, codes, ◌==◌, slice_index_or, unsigned_abs}
+use Rattle.std.specs.List.{AllByRecursion, filter, flat_map, range_with_len}
+use Rattle.common.specs.Limits.{line_count, most_stations}
 use Rattle.common.specs.TextLines.{text_line, score_line}
 use Rattle.sections.specs.Rule.{figure_at}
 use Rattle.house_rules.specs.declared.slip.Slip.{Slip}
@@ -33,5 +33,33 @@ EachHasItsLine =
     (recorded : List (List ℤ)) (late : List Slip) →
     count_text recorded late ≡ record_told recorded ++ (flat_map slip_line late ++ (scores_told recorded late ++ text_line (codes "end") []))
 
+-- figures and slips that their types hold
+abbrev pub FigureFits : ℤ → Type 0
+FigureFits x = unsigned_abs x ≤ 2 ^ 31
+
+pub record SheetFits (f : List ℤ) : Type 0 where
+  pub lines : length f ≡ line_count
+  pub figures : AllByRecursion FigureFits f
+
+pub record SlipFits (x : Slip) : Type 0 where
+  pub sender : x.sender < 2 ^ 64
+  pub number : x.number < 2 ^ 32
+  pub receiver : x.receiver < 2 ^ 64
+  pub line : x.line < 2 ^ 32
+  pub amount : FigureFits x.amount
+
+-- a record of n sheets, and late slips
+pub record CountFits (n : ℕ) (recorded : List (List ℤ)) (late : List Slip) : Type 0 where
+  pub stations : length recorded ≡ n
+  pub sheets : AllByRecursion SheetFits recorded
+  pub slips : AllByRecursion SlipFits late
+
+-- counts of as many stations with the same text have the same record, and the same late slips in the same order
+abbrev pub IsReadBack : Type 0
+IsReadBack =
+    (n : ℕ) (recorded recorded' : List (List ℤ)) (late late' : List Slip) → n ≤ most_stations → CountFits n recorded late → CountFits n recorded' late' →
+    count_text recorded late ≡ count_text recorded' late' → (recorded ≡ recorded') × (late ≡ late')
+
 pub record TheTextSaysEverything : Type 0 where
   pub lines : EachHasItsLine
+  pub read_back : IsReadBack
