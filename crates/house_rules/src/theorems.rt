@@ -67,7 +67,7 @@ pub fn post_tells<M: Method>()
 {}
 
 // The text of a count has a line for each figure of its record that is not 0, for each late slip and for each score that is
-// not 0, and no other but its end; and it can be read back: the record and the late slips in their order are in it.
+// not 0, and no other but its end; and it can be read back: it tells the record and the late slips in their order.
 pub fn text_says_everything()
     ensures { TheTextSaysEverything }
 {}

@@ -9,7 +9,7 @@ use Rattle.std.proofs.lemmas.Fmt.{decimal_injective, signed_decimal_injective}
 use Rattle.common.specs.TextLines.{text_line, score_line, score_lines}
 use Rattle.house_rules.specs.declared.slip.Slip.{Slip}
 use Rattle.house_rules.specs.Calls.CountText.{score, sheet_line, sheet_lines, record_lines, slip_line, slip_lines}
-use Rattle.house_rules.specs.Theorem.Text.{FigureFits, SheetFits, SlipFits, IsReadBack}
+use Rattle.house_rules.specs.Theorem.Text.{FigureFits, SheetFits, SlipFits, IsReadBack, ScoreLineTells}
 use Rattle.house_rules.proofs.Lists.TextLines.{High, high_decimal, high_signed, fields_back}
 
 small_enough : (x : ℤ) → nat_abs x ≤ 2 ^ 31 → nat_abs x < 2 ^ 63
@@ -195,3 +195,11 @@ read_back n fs gs xs ys hn hf hg e =
     (let z = hf.stations in omega arith) (hf.stations ∙ sym hg.stations) hf.sheets hg.sheets
     (no_sheet _ (slips_no_sheet xs _ p.sheet)) (no_sheet _ (slips_no_sheet ys _ q.sheet)) e in
     (r.first, slips_same xs ys _ _ hf.slips hg.slips p.slip q.slip r.second)
+
+pub score_tells : ScoreLineTells
+score_tells k k' x x' hk hk' hx hx' e =
+    let b = fields_back (decimal k ∷ signed_decimal x ∷ []) (decimal k' ∷ signed_decimal x' ∷ []) [] []
+    (high_decimal k (omega arith), (high_signed x (small_enough x hx), tt))
+    (high_decimal k' (omega arith), (high_signed x' (small_enough x' hx'), tt))
+    (ap (λ l. drop 5 l ++ []) e) in
+    (decimal_injective k k' (omega arith) (omega arith) (ap (λ l. get_or l 0 []) b.0), signed_decimal_injective x x' (small_mag x hx) (small_mag x' hx') (ap (λ l. get_or l 1 []) b.0))

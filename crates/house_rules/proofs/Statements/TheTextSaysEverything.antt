@@ -1,7 +1,7 @@
 -- TheTextSaysEverything: the text of a count is the lines of its figures, slips and scores.
 use Rattle.std.proofs.Common.{◌≡◌, ℕ, zero, suc, ◌+◌, Bool, true, false, cond, not, eqb, List, [], ◌∷◌, ◌++◌, length, get_or, ℤ, pos, nat_abs, refl, sym, ap, ◌∙◌, arith}
 use Rattle.std.specs.Prelude.{codes}
-use Rattle.house_rules.proofs.Statements.ReadBack.{read_back}
+use Rattle.house_rules.proofs.Statements.ReadBack.{read_back, score_tells}
 use Rattle.std.specs.List.{filter, flat_map, range_with_len}
 use Rattle.common.specs.TextLines.{text_line, score_line, score_lines, unless_zero}
 use Rattle.sections.specs.Rule.{figure_at}
@@ -66,4 +66,4 @@ lines recorded late =
     ∙ ap (λ t. flat_map (λ s. sheet_told s (sheet_of recorded s)) (range_with_len 0 (length recorded)) ++ (flat_map slip_line late ++ (t ++ end))) (scores_are 32 0 (score recorded late))
 
 pub the_text_says_everything : TheTextSaysEverything
-the_text_says_everything = record { lines = lines; read_back = read_back }
+the_text_says_everything = record { lines = lines; read_back = read_back; scores = score_tells }

@@ -60,6 +60,13 @@ IsReadBack =
     (n : ℕ) (recorded recorded' : List (List ℤ)) (late late' : List Slip) → n ≤ most_stations → CountFits n recorded late → CountFits n recorded' late' →
     count_text recorded late ≡ count_text recorded' late' → (recorded ≡ recorded') × (late ≡ late')
 
+-- a score line tells its line and its sum
+abbrev pub ScoreLineTells : Type 0
+ScoreLineTells =
+    (line line' : ℕ) (sum sum' : ℤ) → line < line_count → line' < line_count → FigureFits sum → FigureFits sum' →
+    score_line line sum ≡ score_line line' sum' → (line ≡ line') × (sum ≡ sum')
+
 pub record TheTextSaysEverything : Type 0 where
   pub lines : EachHasItsLine
   pub read_back : IsReadBack
+  pub scores : ScoreLineTells
