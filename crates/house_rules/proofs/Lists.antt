@@ -3,3 +3,4 @@ pub mod Puts
 pub mod Figures
 pub mod Sums
 pub mod Totals
+pub mod TextLines

@@ -11,4 +11,6 @@ pub mod CloseTellsTheMessages
 pub mod MethodIsToldTheTruth
 pub mod MessagesAreFew
 pub mod PostTells
+pub mod ReadBack
+pub mod TheTextSaysEverything
 pub mod WorkedHistory

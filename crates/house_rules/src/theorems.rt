@@ -3,6 +3,7 @@ ghost use Rattle.house_rules.specs.Theorem.Statements.{HouseIsItsPlainRun, Count
 ghost use Rattle.house_rules.specs.Theorem.Messages.{CloseTellsTheMessages, MessagesAreFew};
 ghost use Rattle.house_rules.specs.Theorem.Replay.{MethodIsToldTheTruth};
 ghost use Rattle.house_rules.specs.Theorem.Posts.{PostTells};
+ghost use Rattle.house_rules.specs.Theorem.Text.{TheTextSaysEverything};
 ghost use Rattle.house_rules.specs.Theorem.WorkedHistory.{WorkedHistory};
 
 use methods::Method;
@@ -63,6 +64,12 @@ pub fn messages_are_few<M: Method>()
 // station's posts before.
 pub fn post_tells<M: Method>()
     ensures { PostTells M.Method.model }
+{}
+
+// The text of a count has a line for each figure of its record that is not 0, for each late slip and for each score that is
+// not 0, and no other but its end; and it can be read back: it tells the record and the late slips in their order.
+pub fn text_says_everything()
+    ensures { TheTextSaysEverything }
 {}
 
 // A history of two counts, worked through: late slips, a take that turns its receiver, a close refused before the reports
