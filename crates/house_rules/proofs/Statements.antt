@@ -11,4 +11,5 @@ pub mod CloseTellsTheMessages
 pub mod MethodIsToldTheTruth
 pub mod MessagesAreFew
 pub mod PostTells
+pub mod WhatGatherTells
 pub mod WorkedHistory

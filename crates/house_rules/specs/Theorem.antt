@@ -6,4 +6,5 @@ pub mod Statements
 pub mod Messages
 pub mod Replay
 pub mod Posts
+pub mod Gathers
 pub mod WorkedHistory

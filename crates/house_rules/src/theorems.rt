@@ -3,6 +3,7 @@ ghost use Rattle.house_rules.specs.Theorem.Statements.{HouseIsItsPlainRun, Count
 ghost use Rattle.house_rules.specs.Theorem.Messages.{CloseTellsTheMessages, MessagesAreFew};
 ghost use Rattle.house_rules.specs.Theorem.Replay.{MethodIsToldTheTruth};
 ghost use Rattle.house_rules.specs.Theorem.Posts.{PostTells};
+ghost use Rattle.house_rules.specs.Theorem.Gathers.{WhatGatherTells};
 ghost use Rattle.house_rules.specs.Theorem.WorkedHistory.{WorkedHistory};
 
 use methods::Method;
@@ -63,6 +64,11 @@ pub fn messages_are_few<M: Method>()
 // station's posts before.
 pub fn post_tells<M: Method>()
     ensures { PostTells M.Method.model }
+{}
+
+// A granted gather of the root tells how many slips cross the cut of the count.
+pub fn gather_tells<M: Method>()
+    ensures { WhatGatherTells M.Method.model }
 {}
 
 // A history of two counts, worked through: late slips, a take that turns its receiver, a close refused before the reports
