@@ -11,5 +11,6 @@ pub mod CloseTellsTheMessages
 pub mod MethodIsToldTheTruth
 pub mod MessagesAreFew
 pub mod PostTells
+pub mod GatherSums
 pub mod WhatGatherTells
 pub mod WorkedHistory

@@ -66,7 +66,8 @@ pub fn post_tells<M: Method>()
     ensures { PostTells M.Method.model }
 {}
 
-// A granted gather of the root tells how many slips cross the cut of the count.
+// A granted gather of the root tells how many slips cross the cut of the count; that of any station tells its frozen deficit
+// and what the gathers of its children told in the count, added up.
 pub fn gather_tells<M: Method>()
     ensures { WhatGatherTells M.Method.model }
 {}

@@ -1,5 +1,5 @@
--- WhatGatherTells: a granted gather of the root answers how many slips cross the cut.
-use Rattle.std.proofs.Common.{◌≡◌, ℕ, ◌+◌, Bool, true, false, cond, not, List, [], ◌∷◌, ◌++◌, length, pos, Some, None, Option, sym, refl, ap, ◌∙◌, subst, arith, length-append}
+-- WhatGatherTells: the root tells how many slips cross the cut, and each station its frozen deficit and what its children told.
+use Rattle.std.proofs.Common.{◌≡◌, ℕ, ◌+◌, ◌*◌, ◌+ℤ◌, Bool, true, false, cond, not, List, [], ◌∷◌, ◌++◌, length, pos, Some, None, Option, sym, refl, ap, ◌∙◌, subst, arith, length-append}
 use Rattle.std.proofs.lemmas.List.{length-map}
 use Rattle.std.proofs.lemmas.List.Sorted.{length_permutation}
 use Rattle.std.proofs.lemmas.Bool.{and_parts, ltb-true}
@@ -12,12 +12,12 @@ use Rattle.common.proofs.AllYes.{AllYes, all_yes_lem, yes_parts}
 use Rattle.house_rules.specs.declared.slip.ColouredSlip.{ColouredSlip}
 use Rattle.house_rules.specs.declared.slip.Slip.{Slip}
 use Rattle.house_rules.specs.State.Names.{named, find, slips_of}
-use Rattle.house_rules.specs.State.House.{HouseState}
-use Rattle.house_rules.specs.Calls.EveryCall.{gather, sum, questions, after, reply}
+use Rattle.house_rules.specs.State.House.{HouseState, station_at}
+use Rattle.house_rules.specs.Calls.EveryCall.{Answer, gather, sum, questions, after, reply}
 use Rattle.house_rules.specs.Calls.Gather.{gather_questions, root_questions, sum_at}
 use Rattle.house_rules.specs.Theorem.Cut.{Cut, cut_of}
-use Rattle.house_rules.specs.Theorem.Gathers.{crossing, GatherTells, WhatGatherTells}
-use Rattle.house_rules.specs.Theorem.Histories.{History, granted_calls}
+use Rattle.house_rules.specs.Theorem.Gathers.{crossing, sums_told, GatherTells, WhatGatherTells}
+use Rattle.house_rules.specs.Theorem.Histories.{done, step, History, granted_calls}
 use Rattle.house_rules.specs.Theorem.PlainHouse.{PlainHouse, blank}
 use Rattle.house_rules.proofs.Calls.Gather.{turned_below}
 use Rattle.house_rules.proofs.Calls.MethodQuestions.{root_is}
@@ -33,6 +33,7 @@ use Rattle.house_rules.proofs.Invariant.WholeHouse.{Holds}
 use Rattle.house_rules.proofs.Lists.Slips.{Distinct, or_else, find_append, same_name_refl, same_name_true, shuffled_from_find}
 use Rattle.house_rules.proofs.Lists.Totals.{count}
 use Rattle.house_rules.proofs.Statements.EveryHistory.{history_holds}
+use Rattle.house_rules.proofs.Statements.GatherSums.{history_told, sum_split}
 
 -- the old slips of a list
 abbrev old_of : (ℕ → ℕ → Bool) → List ColouredSlip → List Slip
@@ -127,13 +128,22 @@ module _ (m : Model) (ml : models.Lawful m) (rule : Rule) (x : HouseState m.Stat
       let ev = turned_below rule c x.phase x.cells (m.rules.outstanding x.method) holds.sound ph 0 refl (ltb-true 0 x.cells.n y.0) y.1.1.0 q.0 q.1 in
       root_is m rule c x holds co ev ∙ ap (λ j. pos j) (sym (crossing_is m rule c x holds co))
 
-  tells : GatherTells m rule x c
+  yes : (s : ℕ) (y : HouseState m.State) (answer : Answer) → step m rule x (gather s) ≡ done y answer → AllYes (gather_questions x.phase x.cells s)
+  yes s y answer answered = (yes_parts (gather_questions x.phase x.cells s) (root_questions m x s) (all_yes_lem (questions m rule x (gather s)) (step_done m rule x (gather s) y answer answered).0)).0
+
+  answer_is : (s : ℕ) (y : HouseState m.State) (answer : Answer) → step m rule x (gather s) ≡ done y answer → answer ≡ sum (sum_at x.cells s)
+  answer_is s y answer answered = sym (outcome_answer (first_no (questions m rule x (gather s))) (after m rule x (gather s)) y (reply m x (gather s)) answer answered)
+
+  station_sum_is : (s : ℕ) → AllYes (gather_questions x.phase x.cells s) → sum_at x.cells s ≡ (station_at x.cells s).frozen +ℤ (sums_told m rule x history (2 * s + 1) +ℤ sums_told m rule x history (2 * s + 2))
+  station_sum_is s y =
+      let q = and_parts _ _ y.1.1.1.1.0 in
+      sum_split (sums_told m rule x history) x.cells holds.sound.shape.stations holds.sound.shape.few (history_told m ml rule x history) s (ltb-true s x.cells.n y.0) q.0 q.1
+
+  tells : GatherTells m rule x c (sums_told m rule x history)
   tells =
       record {
-        root = λ y answer answered.
-            let yes = (yes_parts (gather_questions x.phase x.cells 0) (root_questions m x 0) (all_yes_lem (questions m rule x (gather 0)) (step_done m rule x (gather 0) y answer answered).0)).0 in
-            sym (outcome_answer (first_no (questions m rule x (gather 0))) (after m rule x (gather 0)) y (reply m x (gather 0)) answer answered)
-            ∙ ap (λ z. sum z) (root_sum_is yes);
+        root = λ y answer answered. answer_is 0 y answer answered ∙ ap (λ z. sum z) (root_sum_is (yes 0 y answer answered));
+        station = λ s y answer answered. answer_is s y answer answered ∙ ap (λ z. sum z) (station_sum_is s (yes s y answer answered));
       }
 
 pub what_gather_tells : (m : Model) → models.Lawful m → WhatGatherTells m
