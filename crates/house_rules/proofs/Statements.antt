@@ -12,5 +12,6 @@ pub mod MethodIsToldTheTruth
 pub mod MessagesAreFew
 pub mod PostTells
 pub mod GatherSums
+pub mod GatherDeficits
 pub mod WhatGatherTells
 pub mod WorkedHistory

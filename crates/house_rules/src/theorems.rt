@@ -67,7 +67,8 @@ pub fn post_tells<M: Method>()
 {}
 
 // A granted gather of the root tells how many slips cross the cut of the count; that of any station tells its frozen deficit
-// and what the gathers of its children told in the count, added up.
+// and what the gathers of its children told in the count, added up; and its frozen deficit is its granted posts less its
+// granted takes, late ones apart, between the turn before and its last turn.
 pub fn gather_tells<M: Method>()
     ensures { WhatGatherTells M.Method.model }
 {}

@@ -16,7 +16,7 @@ use Rattle.house_rules.specs.State.House.{HouseState, station_at}
 use Rattle.house_rules.specs.Calls.EveryCall.{Answer, gather, sum, questions, after, reply}
 use Rattle.house_rules.specs.Calls.Gather.{gather_questions, root_questions, sum_at}
 use Rattle.house_rules.specs.Theorem.Cut.{Cut, cut_of}
-use Rattle.house_rules.specs.Theorem.Gathers.{crossing, sums_told, GatherTells, WhatGatherTells}
+use Rattle.house_rules.specs.Theorem.Gathers.{crossing, sums_told, deficits_of, GatherTells, WhatGatherTells}
 use Rattle.house_rules.specs.Theorem.Histories.{done, step, History, granted_calls}
 use Rattle.house_rules.specs.Theorem.PlainHouse.{PlainHouse, blank}
 use Rattle.house_rules.proofs.Calls.Gather.{turned_below}
@@ -33,6 +33,7 @@ use Rattle.house_rules.proofs.Invariant.WholeHouse.{Holds}
 use Rattle.house_rules.proofs.Lists.Slips.{Distinct, or_else, find_append, same_name_refl, same_name_true, shuffled_from_find}
 use Rattle.house_rules.proofs.Lists.Totals.{count}
 use Rattle.house_rules.proofs.Statements.EveryHistory.{history_holds}
+use Rattle.house_rules.proofs.Statements.GatherDeficits.{history_same}
 use Rattle.house_rules.proofs.Statements.GatherSums.{history_told, sum_split}
 
 -- the old slips of a list
@@ -139,11 +140,12 @@ module _ (m : Model) (ml : models.Lawful m) (rule : Rule) (x : HouseState m.Stat
       let q = and_parts _ _ y.1.1.1.1.0 in
       sum_split (sums_told m rule x history) x.cells holds.sound.shape.stations holds.sound.shape.few (history_told m ml rule x history) s (ltb-true s x.cells.n y.0) q.0 q.1
 
-  tells : GatherTells m rule x c (sums_told m rule x history)
+  tells : GatherTells m rule x c (deficits_of (granted_calls m rule x history)) (sums_told m rule x history)
   tells =
       record {
         root = λ y answer answered. answer_is 0 y answer answered ∙ ap (λ z. sum z) (root_sum_is (yes 0 y answer answered));
         station = λ s y answer answered. answer_is s y answer answered ∙ ap (λ z. sum z) (station_sum_is s (yes s y answer answered));
+        frozen = λ s. sym ((history_same m ml rule x history).between s);
       }
 
 pub what_gather_tells : (m : Model) → models.Lawful m → WhatGatherTells m
