@@ -45,6 +45,7 @@ sums_by f [] told = f
 sums_by f (call ∷ calls) [] = f
 sums_by f (call ∷ calls) (response ∷ told) = sums_by (sums_response f call response) calls told
 
+-- after a history
 abbrev pub sums_told : (m : Model) (rule : Rule) (x : HouseState m.State) → History m rule x → ℕ → ℤ
 sums_told m rule x history = sums_by (λ t. pos 0) history.calls (responses m rule history.first history.calls)
 
@@ -89,6 +90,7 @@ deficits_after c g d call =
       between = λ s. cond (turns_in c g call s) (d.since s) (d.between s);
     }
 
+-- after a list of granted calls
 abbrev pub deficits_after_all : Cut → Progress → Deficits → List Call → Deficits
 deficits_after_all c g d [] = d
 deficits_after_all c g d (call ∷ calls) = deficits_after_all (cut_after c call) (progress_after c g call) (deficits_after c g d call) calls
