@@ -13,4 +13,7 @@ pub mod MessagesAreFew
 pub mod PostTells
 pub mod ReadBack
 pub mod TheTextSaysEverything
+pub mod GatherSums
+pub mod GatherDeficits
+pub mod WhatGatherTells
 pub mod WorkedHistory

@@ -7,4 +7,5 @@ pub mod Messages
 pub mod Replay
 pub mod Posts
 pub mod Text
+pub mod Gathers
 pub mod WorkedHistory

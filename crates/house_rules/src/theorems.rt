@@ -4,6 +4,7 @@ ghost use Rattle.house_rules.specs.Theorem.Messages.{CloseTellsTheMessages, Mess
 ghost use Rattle.house_rules.specs.Theorem.Replay.{MethodIsToldTheTruth};
 ghost use Rattle.house_rules.specs.Theorem.Posts.{PostTells};
 ghost use Rattle.house_rules.specs.Theorem.Text.{TheTextSaysEverything};
+ghost use Rattle.house_rules.specs.Theorem.Gathers.{WhatGatherTells};
 ghost use Rattle.house_rules.specs.Theorem.WorkedHistory.{WorkedHistory};
 
 use methods::Method;
@@ -70,6 +71,11 @@ pub fn post_tells<M: Method>()
 // not 0, and no other but its end; and it can be read back: it tells the record and the late slips in their order.
 pub fn text_says_everything()
     ensures { TheTextSaysEverything }
+// A granted gather of the root tells how many slips cross the cut of the count; that of any station tells its frozen deficit
+// and what the gathers of its children told in the count, added up; and its frozen deficit is its granted posts less its
+// granted takes, late ones apart, between the turn before and its last turn.
+pub fn gather_tells<M: Method>()
+    ensures { WhatGatherTells M.Method.model }
 {}
 
 // A history of two counts, worked through: late slips, a take that turns its receiver, a close refused before the reports

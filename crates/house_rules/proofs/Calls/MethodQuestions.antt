@@ -36,7 +36,7 @@ fits_begin (negsuc k) e = let p = and_parts (le_z (pos 0) (negsuc k)) (le_z (neg
 
 module _ (m : Model) (rule : Rule) (c : Cut) (x : HouseState m.State) (k : Holds m rule c x) where
   -- once all have turned, what is gathered at the root is the old slips under way and the late ones
-  root_is : During rule c x.cells (m.rules.outstanding x.method) → ((s : ℕ) → s < x.cells.n → c.turned s ≡ true) → sum_at x.cells 0 ≡ pos (count (λ a b. not (c.new a b)) x.cells.tray + length x.cells.late)
+  pub root_is : During rule c x.cells (m.rules.outstanding x.method) → ((s : ℕ) → s < x.cells.n → c.turned s ≡ true) → sum_at x.cells 0 ≡ pos (count (λ a b. not (c.new a b)) x.cells.tray + length x.cells.late)
   root_is co ev =
       let h = x.cells in
       let sh = k.sound.shape in

@@ -67,7 +67,7 @@ module _ (r : Rule) (c : Cut) (g : Progress) (p : Phase) (cells : Cells) (out : 
       }
 
   -- the house's own test for a late slip is the progress's
-  late_same : (x : ColouredSlip) → find_coloured x.slip.sender x.slip.number cells.tray ≡ Some x → all_yes (r.credit (sheet_at cells x.slip.receiver) x.slip.line x.slip.amount) ≡ true → is_late p cells x ≡ late_take c g x.slip.sender x.slip.number
+  pub late_same : (x : ColouredSlip) → find_coloured x.slip.sender x.slip.number cells.tray ≡ Some x → all_yes (r.credit (sheet_at cells x.slip.receiver) x.slip.line x.slip.amount) ≡ true → is_late p cells x ≡ late_take c g x.slip.sender x.slip.number
   late_same x here yes' = go (is_counting p) refl
     where
       q : c.receiver x.slip.sender x.slip.number ≡ x.slip.receiver

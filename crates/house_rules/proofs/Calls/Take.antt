@@ -71,7 +71,7 @@ module _ (r : Rule) (c : Cut) (p : Phase) (cells : Cells) (out : ℕ) (so : Soun
       rw (ph, k.colouring.marked x.slip.receiver lt, k.colouring.coloured x.slip.receiver lt, first_all (λ (y : ColouredSlip). y.colour ≡ shade k.base (c.new y.slip.sender y.slip.number)) (λ y. named x.slip.sender x.slip.number y.slip) cells.tray x k.colouring.slips here)
       (by_colours k.base (c.turned x.slip.receiver) (c.new x.slip.sender x.slip.number)).0
 
-  first? : During r c cells out → p ≡ Counting → turns_receiver p cells x ≡ (not (c.turned x.slip.receiver) && c.new x.slip.sender x.slip.number)
+  pub first? : During r c cells out → p ≡ Counting → turns_receiver p cells x ≡ (not (c.turned x.slip.receiver) && c.new x.slip.sender x.slip.number)
   first? k ph =
       rw (ph, k.colouring.marked x.slip.receiver lt, k.colouring.coloured x.slip.receiver lt, first_all (λ (y : ColouredSlip). y.colour ≡ shade k.base (c.new y.slip.sender y.slip.number)) (λ y. named x.slip.sender x.slip.number y.slip) cells.tray x k.colouring.slips here)
       (by_colours k.base (c.turned x.slip.receiver) (c.new x.slip.sender x.slip.number)).1

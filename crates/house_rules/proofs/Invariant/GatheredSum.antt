@@ -7,7 +7,7 @@ use Rattle.house_rules.specs.State.House.{fresh}
 use Rattle.house_rules.proofs.Lists.Totals.{sum_z, whole}
 
 module _ (ts : List Station) where
-  sums_outer : (k i : ℕ) → length ts ≤ i → sums k ts i ≡ pos 0
+  pub sums_outer : (k i : ℕ) → length ts ≤ i → sums k ts i ≡ pos 0
   unfolding sums
   sums_outer zero i l = refl
   sums_outer (suc k) i l = rw (le-ltb i (length ts) l)
@@ -31,7 +31,7 @@ module _ (ts : List Station) where
       let l6 = deeper 5 2 1 (omega arith) l5 in
       deeper 6 1 0 (omega arith) l6 i (omega arith)
 
-  sums_inner : length ts ≤ 64 → (i : ℕ) → i < length ts → sums 7 ts i ≡ (get_or ts i fresh).frozen +ℤ (sums 7 ts (2 * i + 1) +ℤ sums 7 ts (2 * i + 2))
+  pub sums_inner : length ts ≤ 64 → (i : ℕ) → i < length ts → sums 7 ts i ≡ (get_or ts i fresh).frozen +ℤ (sums 7 ts (2 * i + 1) +ℤ sums 7 ts (2 * i + 2))
   unfolding sums
   sums_inner few i l = all_levels few i ∙ rw (lt-ltb i (length ts) l)
 

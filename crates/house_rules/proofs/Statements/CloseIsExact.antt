@@ -34,7 +34,7 @@ use Rattle.house_rules.proofs.Calls.Turn.{during_of}
 use Rattle.house_rules.proofs.Calls.MethodQuestions.{house_decides}
 use Rattle.methods.specs.Model as models
 
-made_kept : (handed : Handed) → Kept no_progress Ready (made_cells handed)
+pub made_kept : (handed : Handed) → Kept no_progress Ready (made_cells handed)
 made_kept handed = record { opened = refl; gathered = fun_ext (λ s. ap (λ u. u.gathered) (sym (get_or-same handed.n fresh s))); late_takes = λ s. let e : (station_at (made_cells handed) s).unreported ≡ 0 = ap (λ u. u.unreported) (get_or-same handed.n fresh s) in omega arith }
 
 history_kept : (m : Model) → models.Lawful m → (rule : Rule) (x : HouseState m.State) (history : History m rule x) → Kept (progress_of (granted_calls m rule x history)) x.phase x.cells
