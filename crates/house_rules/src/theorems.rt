@@ -71,6 +71,8 @@ pub fn post_tells<M: Method>()
 // not 0, and no other but its end; and it can be read back: it tells the record and the late slips in their order.
 pub fn text_says_everything()
     ensures { TheTextSaysEverything }
+{}
+
 // A granted gather of the root tells how many slips cross the cut of the count; that of any station tells its frozen deficit
 // and what the gathers of its children told in the count, added up; and its frozen deficit is its granted posts less its
 // granted takes, late ones apart, between the turn before and its last turn.
