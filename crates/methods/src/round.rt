@@ -5,7 +5,7 @@ ghost use Rattle.methods.specs.Split.{after_split, paid};
 ghost use Rattle.methods.specs.Swap.{exchange};
 ghost use Rattle.methods.specs.Tokens.{FewStations, FewTokens, green, tokens_at};
 
-use crate::deal::{dealt_to, limit_of};
+use crate::deal::deal;
 use crate::shares::shares;
 use arrayvec::ArrayVec;
 use common::limits::MOST_STATIONS;
@@ -18,6 +18,25 @@ pub(crate) struct Round {
     tokens: ArrayVec<u16, MOST_STATIONS>,
     ghost small: { FewStations tokens.items },
     ghost few: { FewTokens tokens.items },
+}
+
+// As many stations as that; a new one has no tokens.
+fn resize(tokens: &mut ArrayVec<u16, MOST_STATIONS>, n: usize)
+    requires { n ≤ most_stations }
+    ensures { length tokens.new.items ≡ n }
+{
+    tokens.truncate(n);
+    for _ in tokens.len()..n {
+        tokens.push(0);
+    }
+}
+
+// The tokens of these stations together.
+pub(crate) fn total(tokens: &[u16]) -> u32
+    requires { length tokens.now ≤ most_stations }
+    ensures { result ≡ sum tokens.now }
+{
+    tokens.iter().map(|t| u32::from(*t)).sum()
 }
 
 impl Round {
@@ -33,22 +52,16 @@ impl Round {
         }
     }
 
-    // Deals `total` tokens over `n` stations, the same to each and one more to the first ones. The two numbers are of no value yet, so
-    // that their bounds are asked here.
-    pub(crate) fn dealt(n: usize, total: u16) -> Round
+    // Deals `total` tokens over `n` stations anew, the same to each and one more to the first ones. The two numbers are of no value yet,
+    // so that their bounds are asked here. In place: a new round in its stead would be copied.
+    pub(crate) fn deal(&mut self, n: usize, total: u16)
         requires some { 1 ≤ n }
         requires small { n ≤ most_stations }
         requires few { total ≤ most_arrivals }
-        ensures { held result ≡ new_round n total }
+        ensures { held self.new ≡ new_round n total }
     {
-        let mut tokens = ArrayVec::new();
-        for i in 0..n {
-            tokens.push(dealt_to(n as u16, total, i));
-        }
-        Round {
-            limit: limit_of(n as u16, total),
-            tokens,
-        }
+        resize(&mut self.tokens, n);
+        self.limit = deal(self.tokens.as_mut_slice(), total);
     }
 
     pub(crate) fn stations(&self) -> usize
@@ -77,7 +90,7 @@ impl Round {
         ensures sum { result ≡ sum (held self.now).tokens }
         ensures few { result ≤ most_arrivals }
     {
-        self.tokens.iter().map(|t| u32::from(*t)).sum()
+        total(self.tokens.as_slice())
     }
 
     // Station `i` pays one token.
