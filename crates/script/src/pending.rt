@@ -34,9 +34,12 @@ impl Pending {
     pub fn add(&mut self, byte: u8)
         ensures { self.new ≡ added self.old byte }
     {
-        match &mut self.line {
-            Some(kept) if !kept.is_full() => kept.push(byte),
-            _ => self.line = None,
+        if let Some(kept) = &mut self.line {
+            if kept.is_full() {
+                self.line = None;
+            } else {
+                kept.push(byte);
+            }
         }
     }
 
