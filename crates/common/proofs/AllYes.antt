@@ -23,6 +23,11 @@ pub yes_parts : {C : Type 0} (qs rs : List (Question C)) → AllYes (qs ++ rs) �
 yes_parts [] rs y = (tt, y)
 yes_parts (q ∷ qs) rs y = let p = yes_parts qs rs y.1 in ((y.0, p.0), p.1)
 
+-- the test says so too
+pub all_tested : {C : Type 0} (qs : List (Question C)) → AllYes qs → all_yes qs ≡ true
+all_tested [] y = refl
+all_tested (q ∷ qs) y = rw y.0 (all_tested qs y.1)
+
 -- where the second questions are answered yes as soon as the first are, the first alone decide
 pub first_decide : {C : Type 0} (qs rs : List (Question C)) → (AllYes qs → AllYes rs) → first_no (qs ++ rs) ≡ first_no qs
 first_decide [] rs h = no_first rs (h tt)

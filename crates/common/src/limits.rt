@@ -4,7 +4,7 @@
 // A sheet has lines 0 to 31.
 pub const LINES: u32 = 32;
 // A figure is from -20,000 to 20,000.
-pub const LARGEST_FIGURE: i64 = 20_000;
+pub const LARGEST_FIGURE: i32 = 20_000;
 // A slip carries an amount from -1,000 to 1,000.
 pub const LARGEST_AMOUNT: i32 = 1_000;
 // A house has 1 to 64 stations.

@@ -18,6 +18,9 @@ within_same n zero z low high k = (omega (arith, ints), omega (arith, ints))
 within_same n (suc m) z low high zero = (low, high)
 within_same n (suc m) z low high (suc k) = within_same n m z low high k
 
+pub figure_yes : (z : ℤ) → neg_ℤ (pos largest_figure) ≤ℤ z → z ≤ℤ pos largest_figure → is_figure z ≡ true
+figure_yes z low high = grind (arith, ints)
+
 pub figure_low : (z : ℤ) → is_figure z ≡ true → neg_ℤ (pos largest_figure) ≤ℤ z
 figure_low z h = grind (arith, ints)
 

@@ -31,6 +31,15 @@ impl From<Cause> for u8 {
     }
 }
 
+impl Cause {
+    // The number by which the cause is told.
+    pub fn number(self) -> u8
+        ensures { result ≡ cause_number self }
+    {
+        u8::from(self)
+    }
+}
+
 impl Fault {
     pub(crate) fn new(cause: Cause, line: u32) -> Fault
         ensures { result ≡ record { cause = cause; line = line } }

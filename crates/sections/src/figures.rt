@@ -46,7 +46,8 @@ impl Figures {
     fn put(&mut self, line: Line, figure: i64) -> Result<(), Fault>
         ensures { Did (figure_questions figure line.number) cause_and_line (λ _. self.new.values ≡ slice_set self.old.values line.number figure) self.old self.new result }
     {
-        if !(-LARGEST_FIGURE..=LARGEST_FIGURE).contains(&figure) {
+        let largest = i64::from(LARGEST_FIGURE);
+        if !(-largest..=largest).contains(&figure) {
             return Err(Fault::new(Cause::OutOfRange, line.number()));
         }
         // that the figure fits in 16 bits is proved of the cast; `try_from` would ask it a second time

@@ -21,11 +21,11 @@ use Rattle.methods.specs.Model as models
 use Rattle.house_rules.specs.Calls.Event.{enter, post, take}
 
 -- the numbers of all questions are below 23
-abbrev Low : List (Question Code) → Type 0
+abbrev pub Low : List (Question Code) → Type 0
 Low [] = Unit {0}
 Low (q ∷ qs) = (q.told.0 < 23) × Low qs
 
-low_first : (qs : List (Question Code)) (code : Code) → Low qs → first_no qs ≡ Some code → code.0 < 23
+pub low_first : (qs : List (Question Code)) (code : Code) → Low qs → first_no qs ≡ Some code → code.0 < 23
 low_first [] code l e = let z : ◌≡◌ {A = ℕ} 0 1 = cc in absurd (omega arith)
 low_first (q ∷ qs) code l e = go q.yes? refl (low_first qs code l.1)
   where
