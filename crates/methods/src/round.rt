@@ -20,7 +20,7 @@ pub(crate) struct Round {
     ghost few: { FewTokens tokens.items },
 }
 
-// As many stations as that; a new one has no tokens.
+// Makes it `n` stations, whatever they hold: a deal writes them all.
 fn resize(tokens: &mut ArrayVec<u16, MOST_STATIONS>, n: usize)
     requires { n ≤ most_stations }
     ensures { length tokens.new.items ≡ n }
@@ -53,7 +53,7 @@ impl Round {
     }
 
     // Deals `total` tokens over `n` stations anew, the same to each and one more to the first ones. The two numbers are of no value yet,
-    // so that their bounds are asked here. In place: a new round in its stead would be copied.
+    // so that their bounds are asked here. It writes in place: a new round would be copied over the old one.
     pub(crate) fn deal(&mut self, n: usize, total: u16)
         requires some { 1 ≤ n }
         requires small { n ≤ most_stations }
